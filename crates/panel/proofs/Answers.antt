@@ -1,0 +1,41 @@
+-- Numbers put into the caller's answer, one after the other.
+use Prim.Native.Nat.{ℕ, suc, _+_, min}
+use mathlib.Core.Path.{_≡_, refl, ap, subst, _∙_}
+use mathlib.Core.List.{List, [], _∷_}
+use native.Mathlib.Nat.{zero-add}
+use native.Mathlib.Numerals.{add-one}
+use lib.ListN.{length, getD, set, replicate}
+use Rattle.wire.specs.Bytes.{straight, bytes, writes, wrote}
+use Rattle.wire.proofs.Positions.{bytes-that-fit, copy-step}
+use Rattle.refusal.specs.Numbers.{numberOf}
+use Rattle.refusal.specs.declared.Refusal.{Refusal}
+use Rattle.region.specs.Layout.{Outcome, outcomeOf}
+use Rattle.region.specs.declared.RegionLayout.{RegionLayout}
+use Rattle.region.specs.declared.LayoutAnswer.{LayoutAnswer}
+use Rattle.region.specs.declared.LayoutAnswer.the-variants.{Accepted, Refused}
+use Rattle.panel.specs.Answers.{answered, layoutNumbers}
+
+-- s after the first i of the numbers
+abbrev pub afterFirst : List ℕ → List ℕ → ℕ → List ℕ
+afterFirst s numbers i = wrote s (writes (straight 0) (bytes numbers (straight 0) i))
+
+pub one-more : (s numbers : List ℕ) (i : ℕ) → set (afterFirst s numbers i) i (getD numbers i 0) ≡ afterFirst s numbers (i + 1)
+one-more s numbers i =
+    rw (add-one i)
+    (subst (λ (k : ℕ). set (afterFirst s numbers i) k (getD numbers k 0) ≡ afterFirst s numbers (suc i)) (zero-add i)
+    (copy-step (straight 0) (straight 0) numbers s i))
+
+pub all-that-fit : (s numbers : List ℕ) (i : ℕ) → i ≡ min (length s) (length numbers) → afterFirst s numbers i ≡ answered s numbers
+unfolding answered
+all-that-fit s numbers i e =
+    ap (afterFirst s numbers) e ∙ ap (λ (l : List ℕ). wrote s (writes (straight 0) l)) (bytes-that-fit numbers (length s))
+
+-- each way out of the exported layout: t is the caller's answer s afterwards
+module _ (a : LayoutAnswer) (o : Outcome) (s t : List ℕ) (h : outcomeOf a ≡ o) where
+  pub accepted-layout : (y : RegionLayout) → a ≡ Accepted y → t ≡ answered s (y .begin ∷ y .data ∷ y .blocks ∷ y .block ∷ y .end ∷ []) →
+      (0 ≡ o .number) × (t ≡ answered s (layoutNumbers o))
+  accepted-layout y e q = rw (← h, e) (refl, q)
+
+  pub refused-layout : (x : Refusal) (n : ℕ) → a ≡ Refused x → n ≡ numberOf x → t ≡ answered s (replicate 5 0) →
+      (n ≡ o .number) × (t ≡ answered s (layoutNumbers o))
+  refused-layout x n e k q = rw (← h, e) (k, q)

@@ -1,0 +1,4 @@
+pub mod Numbers
+pub mod Positions
+pub mod Wrapped
+pub mod Trees
