@@ -3,6 +3,8 @@
 //! All sizes are whole numbers (`i64`, far wider than any value here), so
 //! nothing wraps and a difference may be negative.
 
+use crate::refusal::Refusal;
+
 /// The good alignments: the powers of two from 4 to 256.
 pub const ALIGNMENTS: [u32; 7] = [4, 8, 16, 32, 64, 128, 256];
 
@@ -35,15 +37,6 @@ pub struct Layout {
     pub block_size: u32,
     /// End of the region, rounded down; the last block ends here.
     pub end: u32,
-}
-
-/// Why a layout is refused, by refusal number.
-#[derive(Clone, Copy)]
-pub enum Refusal {
-    Alignment = 1,
-    BlockCount = 2,
-    Region = 3,
-    TooSmall = 4,
 }
 
 /// Lays a region out, or gives the first refusal that applies.
@@ -101,7 +94,7 @@ pub fn ring_minimum(local_blocks: i64, remote_blocks: i64, alignment: i64) -> i6
 }
 
 /// The read index padded to the alignment, then the write index.
-fn ring_header(alignment: i64) -> i64 {
+pub fn ring_header(alignment: i64) -> i64 {
     alignment + 4
 }
 

@@ -6,24 +6,18 @@ use crate::layout::{lay_out, ring_minimum, round_up, Request, ALIGNMENTS, MOST_B
 use crate::layout_inputs::{FAMILIES, MIXTURES};
 use crate::proved;
 use crate::random::Random;
+use crate::refusal::outcome_name;
 use crate::report::{Group, Report};
+use crate::tally::Tally;
+use crate::twin::{Twin, PATTERN};
 use crate::Settings;
 
 /// Values of a layout: aligned begin, ring data length, blocks begin, block
 /// size, aligned end.
 const VALUES: usize = 5;
 
-/// What the answer holds before a call, so that a value not written shows.
-const PATTERN: u32 = 0xA5C3_5A3C;
-
 /// The longest answer tried; it has room for more than the values.
 const LONGEST_ANSWER: usize = 8;
-
-/// Every outcome must occur this often in a run.
-const LEAST_OCCURRENCES: u64 = 100;
-
-/// How often each outcome occurred: accepted, refusal 1, 2, 3 and 4.
-type Tally = [u64; 5];
 
 /// Runs the whole comparison.
 pub fn run(settings: &Settings, report: &mut Report) {
@@ -61,7 +55,7 @@ pub fn run(settings: &Settings, report: &mut Report) {
         });
     }
     report.group("layout: every outcome occurred", |group| {
-        check_tally(group, &tally);
+        tally.check(group, "layout", &[0, 1, 2, 3, 4]);
     });
 }
 
@@ -102,14 +96,11 @@ impl Outcome {
 impl Display for Outcome {
     fn fmt(&self, f: &mut Formatter) -> fmt::Result {
         let [begin, ring_data_length, blocks_begin, block_size, end] = self.values;
-        match self.refusal {
-            0 => write!(f, "accepted")?,
-            number => write!(f, "refusal {number}")?,
-        }
         write!(
             f,
-            ", begin {begin:#x}, ring data {ring_data_length}, \
-             blocks begin {blocks_begin:#x}, block {block_size}, end {end:#x}"
+            "{}, begin {begin:#x}, ring data {ring_data_length}, \
+             blocks begin {blocks_begin:#x}, block {block_size}, end {end:#x}",
+            outcome_name(self.refusal)
         )
     }
 }
@@ -133,7 +124,7 @@ fn compare(
     let second = Outcome::second(request);
     let proved = Outcome::proved(request);
     group.input();
-    tally[second.refusal as usize] += 1;
+    tally.count(second.refusal);
     if second != proved {
         group.mismatch(|| format!("{request}\n  second: {second}\n  proved: {proved}"));
     }
@@ -305,45 +296,24 @@ fn compare_answer(
     length: usize,
     pattern: u32,
 ) {
-    // Five values written to the shortest answer would still end in here.
-    const AROUND: usize = VALUES;
-    let before = [pattern; AROUND + LONGEST_ANSWER + AROUND];
-    let answer = AROUND..AROUND + length;
-
     let second = Outcome::second(request);
-    let mut expected = before;
-    for (element, value) in expected[answer.clone()].iter_mut().zip(second.values) {
+    let mut answer = Twin::new(&vec![pattern; length]);
+    let [second_answer, proved_answer] = answer.lend();
+    for (element, value) in second_answer.iter_mut().zip(second.values) {
         *element = value;
     }
-    let mut memory = before;
-    let refusal = proved::layout(request, &mut memory[answer]);
+    let refusal = proved::layout(request, proved_answer);
 
     group.input();
-    tally[second.refusal as usize] += 1;
-    if refusal != second.refusal || memory != expected {
+    tally.count(second.refusal);
+    if refusal != second.refusal || !answer.same() {
         group.mismatch(|| {
             format!(
-                "{request}, answer of {length} elements behind {AROUND} others, all {pattern:#x}\n  \
-                 second: refusal {}, {expected:x?}\n  proved: refusal {refusal}, {memory:x?}",
-                second.refusal
+                "{request}, answer of {length} elements, all {pattern:#x}\n  \
+                 second: {second}\n  proved: {}\n  answer: {}",
+                outcome_name(refusal),
+                answer.difference()
             )
         });
-    }
-}
-
-/// A comparison that hardly met some outcome has shown little about it.
-fn check_tally(group: &mut Group, tally: &Tally) {
-    for (number, &occurrences) in tally.iter().enumerate() {
-        let name = match number {
-            0 => "accepted".to_string(),
-            _ => format!("refusal {number}"),
-        };
-        println!("layout outcomes: {name:<10} {occurrences:>10}");
-        group.input();
-        if occurrences < LEAST_OCCURRENCES {
-            group.mismatch(|| {
-                format!("{name} occurred {occurrences} times, under {LEAST_OCCURRENCES}")
-            });
-        }
     }
 }

@@ -34,22 +34,22 @@ const COUNTS: [u32; 5] = [0, 1, 255, 256, 257];
 const MORE_COUNTS: [u32; 8] = [0, 1, 2, 16, 32, 255, 256, 257];
 
 /// The last number that can be handed over as an address.
-const LAST: i64 = u32::MAX as i64;
+pub const LAST: i64 = u32::MAX as i64;
 
 /// A usual address, a multiple of every good alignment.
-const USUAL: i64 = 0x2007_0000;
+pub const USUAL: i64 = 0x2007_0000;
 
 /// A request without its region.
 #[derive(Clone, Copy)]
-struct Numbers {
-    local_blocks: u32,
-    remote_blocks: u32,
-    alignment: u32,
+pub struct Numbers {
+    pub local_blocks: u32,
+    pub remote_blocks: u32,
+    pub alignment: u32,
 }
 
 impl Numbers {
     /// Every alignment with every pair of counts.
-    fn product(alignments: &[u32], counts: &[u32]) -> Vec<Self> {
+    pub fn product(alignments: &[u32], counts: &[u32]) -> Vec<Self> {
         let mut product = Vec::new();
         for &alignment in alignments {
             for (local_blocks, remote_blocks) in pairs(counts) {
@@ -74,7 +74,7 @@ impl Numbers {
     }
 
     /// The same from whole numbers; none if an address leaves 32 bits.
-    fn sized_region(self, begin: i64, size: i64) -> Option<Request> {
+    pub fn sized_region(self, begin: i64, size: i64) -> Option<Request> {
         let end = u32::try_from(begin + size).ok()?;
         Some(self.region(u32::try_from(begin).ok()?, end))
     }
@@ -95,7 +95,7 @@ impl Numbers {
 
     /// The sizes at which the ring fits, one least block fits beside it, and
     /// all blocks get their first and their second unit of size.
-    fn size_limits(self) -> [i64; 4] {
+    pub fn size_limits(self) -> [i64; 4] {
         let a = i64::from(self.alignment);
         let blocks = i64::from(self.local_blocks);
         let ring = ring_minimum(blocks, i64::from(self.remote_blocks), a);
@@ -290,7 +290,8 @@ fn corners_mixed_in(random: &mut Random) -> Request {
     request
 }
 
-fn corner(random: &mut Random) -> u32 {
+/// A number near 0, near the last one or near a power of two, or any.
+pub fn corner(random: &mut Random) -> u32 {
     let near = random.below(600) as u32;
     match random.below(4) {
         0 => near,
@@ -301,7 +302,7 @@ fn corner(random: &mut Random) -> u32 {
 }
 
 /// Block counts and alignment within the limits.
-fn good_numbers(random: &mut Random) -> Numbers {
+pub fn good_numbers(random: &mut Random) -> Numbers {
     Numbers {
         local_blocks: good_count(random),
         remote_blocks: good_count(random),

@@ -6,7 +6,16 @@ mod layout_cases;
 mod layout_inputs;
 mod proved;
 mod random;
+mod refusal;
 mod report;
+mod ring;
+mod ring_calls;
+mod ring_cases;
+mod ring_faults;
+mod ring_inputs;
+mod ring_link;
+mod tally;
+mod twin;
 
 use std::env;
 use std::process::ExitCode;
@@ -16,7 +25,8 @@ use report::Report;
 type Comparison = fn(&Settings, &mut Report);
 
 /// The comparisons there are, by the word that asks for one alone.
-const COMPARISONS: [(&str, Comparison); 1] = [("layout", layout_cases::run)];
+const COMPARISONS: [(&str, Comparison); 2] =
+    [("layout", layout_cases::run), ("ring", ring_cases::run)];
 
 pub struct Settings {
     /// Decides all random inputs.

@@ -46,3 +46,27 @@ impl Random {
         choices[self.below(choices.len() as u64) as usize]
     }
 }
+
+/// Random bytes, made once: slices of them are faster than new ones for every
+/// call.
+pub struct Pool {
+    bytes: Vec<u8>,
+}
+
+impl Pool {
+    /// Twice the largest region.
+    const LENGTH: usize = 1 << 21;
+
+    pub fn new(random: &mut Random) -> Self {
+        let numbers = (0..Self::LENGTH / 4).map(|_| random.any());
+        Pool {
+            bytes: numbers.flat_map(u32::to_le_bytes).collect(),
+        }
+    }
+
+    /// A slice from a random place; of at most `LENGTH` bytes.
+    pub fn slice(&self, random: &mut Random, length: usize) -> &[u8] {
+        let first = random.below((self.bytes.len() - length) as u64 + 1) as usize;
+        &self.bytes[first..first + length]
+    }
+}

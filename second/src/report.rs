@@ -81,7 +81,12 @@ impl Group<'_> {
             return;
         }
         self.progress.clear();
-        println!("mismatch in {}: {}", self.name, describe());
+        println!(
+            "mismatch in {}, input {}: {}",
+            self.name,
+            self.inputs,
+            describe()
+        );
         if self.mismatches == PRINTED_MISMATCHES {
             println!("mismatches in {}: further ones are not printed", self.name);
         }

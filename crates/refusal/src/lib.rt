@@ -11,6 +11,18 @@ pub enum Refusal {
     BadBounds,
     // A region has no room for the ring's minimum, or for one byte in each block.
     TooSmall,
+    // The lent slice is not the whole region, or the end is closed.
+    WrongRegion,
+    // The partner's index is not below the ring's data length, or no multiple of 4.
+    BadIndex,
+    // Nothing on the ring is unread.
+    Empty,
+    // The next packet is longer than the unread bytes.
+    BrokenPacket,
+    // The packet does not fit beside the used bytes.
+    Full,
+    // The content has over 65,535 bytes.
+    TooLong,
 }
 
 impl Refusal {
@@ -22,6 +34,12 @@ impl Refusal {
             Refusal::BadBlockCount => 2,
             Refusal::BadBounds => 3,
             Refusal::TooSmall => 4,
+            Refusal::WrongRegion => 6,
+            Refusal::BadIndex => 7,
+            Refusal::Empty => 8,
+            Refusal::BrokenPacket => 9,
+            Refusal::Full => 10,
+            Refusal::TooLong => 11,
         }
     }
 }

@@ -9,7 +9,8 @@ use borrow.Author.Tests.{leb-true}
 use Rattle.wire.specs.Choice.{pick}
 use Rattle.region.specs.Layout.{Outcome, refused, isAlignment, isBlockCount, areBounds, roundDown, roundUp, headerSize, ringMinimum, alignedSize, blockSizeOf, accepted, fitted, layout}
 use Rattle.region.specs.Laws.{InRule, LaidOut, AcceptedLayouts}
-use Rattle.region.proofs.Checks.{both, in-rule}
+use Rattle.wire.proofs.Choices.{both}
+use Rattle.region.proofs.Checks.{in-rule}
 
 -- ---- all checks have passed
 

@@ -7,12 +7,9 @@ use native.Mathlib.Nat.{div-mul-le-self, mul-le-mul-left}
 use lib.Dec.{leb, ltb, eqb}
 use borrow.Author.Tests.{ltb-true, leb-true, eqb-true, not-true, not-false, lt-leb, le-leb}
 use Rattle.wire.specs.Choice.{pick}
+use Rattle.wire.proofs.Choices.{both}
 use Rattle.region.specs.Layout.{Outcome, refused, isAlignment, isBlockCount, areBounds, roundDown, roundUp, headerSize, ringMinimum, alignedSize, blockSizeOf, accepted, fitted, layout}
 use Rattle.region.specs.Laws.{InRule}
-
-pub both : (x y : Bool) → (x && y) ≡ true → (x ≡ true) × (y ≡ true)
-both true y h = (refl, h)
-both false y h = absurd (false≢true h)
 
 -- ---- what they say
 

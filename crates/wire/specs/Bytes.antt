@@ -1,6 +1,8 @@
 -- Numbers as bytes, and bytes by their positions in a list.
 use Prim.Native.Nat.{ℕ, zero, suc, _+_, _*_, _/_, _%_}
 use mathlib.Core.List.{List, [], _∷_}
+use mathlib.Core.Bool.{Bool, true, false, _&&_}
+use lib.Dec.{eqb}
 use lib.ListN.{getD, set}
 
 -- the n low bytes of v, the lowest first
@@ -44,3 +46,10 @@ writes p (b ∷ bs) = (p 0, b) ∷ writes (λ j. p (suc j)) bs
 unfoldable pub wrote : List ℕ → List (ℕ × ℕ) → List ℕ
 wrote s [] = s
 wrote s (w ∷ ws) = wrote (set s (w .0) (w .1)) ws
+
+-- whether two lists are the same
+unfoldable pub same : List ℕ → List ℕ → Bool
+same [] [] = true
+same [] (y ∷ ys) = false
+same (x ∷ xs) [] = false
+same (x ∷ xs) (y ∷ ys) = eqb x y && same xs ys

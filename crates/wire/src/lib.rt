@@ -1,8 +1,10 @@
 // Bytes at positions. These are building blocks: a caller shows that the positions lie in the slices.
+pub mod around;
+
 ghost use mathlib.Core.Path.{_≡_};
 ghost use Prim.Native.Nat.{_+_, _<_, _≤_, min};
 ghost use lib.ListN.{length};
-ghost use Rattle.wire.specs.Bytes.{littleEndian, fromLittleEndian, straight, bytes, writes, wrote};
+ghost use Rattle.wire.specs.Bytes.{littleEndian, fromLittleEndian, straight, bytes, writes, wrote, same as sameBytes};
 
 // Copies n bytes of src, from position `from` on, into dst, from position `to` on. It compiles to memcpy.
 pub fn copy(dst: &mut [u8], to: usize, src: &[u8], from: usize, n: usize)
@@ -15,6 +17,23 @@ pub fn copy(dst: &mut [u8], to: usize, src: &[u8], from: usize, n: usize)
         dst[to + i] = src[from + i];
         i += 1;
     }
+}
+
+// Whether two slices hold the same bytes.
+pub fn same(a: &[u8], b: &[u8]) -> bool
+    ensures { λ r. ⌜ r ≡ sameBytes (now (a .entry)) (now (b .entry)) ⌝ }
+{
+    if a.len() != b.len() {
+        return false;
+    }
+    let mut i = 0;
+    while i < a.len() {
+        if a[i] != b[i] {
+            return false;
+        }
+        i += 1;
+    }
+    true
 }
 
 // The lesser of two lengths.
