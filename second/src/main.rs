@@ -12,6 +12,7 @@ mod ring;
 mod ring_calls;
 mod ring_cases;
 mod ring_faults;
+mod ring_hostile;
 mod ring_inputs;
 mod ring_link;
 mod tally;

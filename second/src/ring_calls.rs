@@ -13,7 +13,7 @@ use crate::twin::{Twin, PATTERN};
 /// Numbers in a whole answer: length, own index after the call.
 pub const ANSWER: usize = 2;
 
-/// What both calls are asked with, but for the lent memory.
+/// What a push or a pull is asked with, but for the lent memory.
 #[derive(Clone, Copy)]
 pub struct Call {
     pub request: Request,
@@ -26,8 +26,9 @@ pub struct Call {
 /// What a call comes to; refusal 0 is an accepted one.
 #[derive(Clone, Copy, PartialEq, Eq)]
 pub struct Outcome {
-    pub refusal: u32,
-    pub length: u32,
+    refusal: u32,
+    length: u32,
+    /// After the call.
     pub own_index: u32,
 }
 

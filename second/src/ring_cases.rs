@@ -1,18 +1,18 @@
 //! The comparison of the two rings.
 
 use crate::layout::{Request, LARGEST_REGION};
-use crate::layout_inputs::{self, corner, Numbers};
+use crate::layout_inputs::Numbers;
 use crate::random::{Pool, Random};
 use crate::report::Report;
 use crate::ring::UNIT;
-use crate::ring_calls::{Call, Calls, Tallies};
+use crate::ring_calls::{Calls, Tallies};
 use crate::ring_faults::{self, CHOICES};
-use crate::ring_inputs::{answer_length, buffer_length, content_length, multiple, Place};
+use crate::ring_hostile::{hostile_partner, openings};
+use crate::ring_inputs::{buffer_length, content_length, Place, SMALL_REGION};
 use crate::ring_link::Link;
-use crate::twin::Twin;
 use crate::Settings;
 
-/// A group whose calls are always the same but for random bytes.
+/// A group with its own number of calls.
 type Fixed = fn(&mut Calls, &mut Random, &Pool);
 
 const FIXED: [(&str, Fixed); 7] = [
@@ -40,10 +40,7 @@ const MIXTURES: [(&str, Mixture); 6] = [
     ("hostile caller, openings of every kind", openings),
 ];
 
-/// The most bytes of a region that is called small.
-const SMALL_REGION: i64 = 4096;
-
-/// Contents and packet of the bench: data, address 2, block 5.
+/// Content and packet of the bench: data, address 2, block 5.
 const BENCH_CONTENT: [u8; 3] = [0x00, 0x02, 0x05];
 const BENCH_PACKET: [u8; 8] = [0x00, 0x03, 0x00, 0x00, 0x00, 0x02, 0x05, 0x00];
 
@@ -60,7 +57,8 @@ pub fn run(settings: &Settings, report: &mut Report) {
         });
     }
     let share = settings.cases.div_ceil(MIXTURES.len() as u64);
-    for (stream, (name, run)) in (101..).zip(MIXTURES) {
+    // Streams far from those above, which more groups would move.
+    for (stream, (name, run)) in (100..).zip(MIXTURES) {
         report.group(&format!("ring random: {name}"), |group| {
             let mut random = Random::new(settings.seed, stream);
             let tallies = &mut tallies;
@@ -280,104 +278,6 @@ fn traffic(
     }
 }
 
-/// A partner that writes what it likes to the region between two calls.
-fn hostile_partner(calls: &mut Calls, random: &mut Random, pool: &Pool, share: u64) {
-    const CALLS: u64 = 40;
-    let mut left = share;
-    while left > 0 {
-        let place = Place::any(random, SMALL_REGION);
-        let mut region = Twin::new(pool.slice(random, place.region_length()));
-        let calls_here = left.min(CALLS);
-        left -= calls_here;
-        for _ in 0..calls_here {
-            hostile_call(calls, random, pool, place, &mut region);
-        }
-    }
-}
-
-fn hostile_call(
-    calls: &mut Calls,
-    random: &mut Random,
-    pool: &Pool,
-    place: Place,
-    region: &mut Twin<u8>,
-) {
-    if random.one_in(8) {
-        let bytes = pool.slice(random, place.data_length);
-        for region in region.lend() {
-            place.ring(region).data.copy_from_slice(bytes);
-        }
-    }
-    let own_index = if random.one_in(16) {
-        place.bad_index(random)
-    } else {
-        place.index(random)
-    };
-    let partner_index = hostile_index(random, place, own_index);
-    // Nobody reads the own index in memory, so it may mislead.
-    let stale_index = hostile_index(random, place, own_index);
-    let call = Call {
-        request: place.request,
-        own_index,
-        answer_length: answer_length(random),
-        stated: None,
-    };
-    // Whatever the indexes are, these are lengths around the limit.
-    let ahead = (i64::from(partner_index) - i64::from(own_index))
-        .rem_euclid(place.data_length as i64) as usize;
-
-    if random.one_in(2) {
-        for region in region.lend() {
-            let ring = place.ring(region);
-            *ring.read_index = partner_index.to_le_bytes();
-            *ring.write_index = stale_index.to_le_bytes();
-        }
-        let room = if ahead == 0 { place.data_length } else { ahead } - 1;
-        let length = content_length(random, room);
-        calls.push(&call, region, pool.slice(random, length));
-    } else {
-        let length = hostile_length(random, ahead);
-        for region in region.lend() {
-            let ring = place.ring(region);
-            *ring.read_index = stale_index.to_le_bytes();
-            *ring.write_index = partner_index.to_le_bytes();
-            if let Some(place) = ring.data.get_mut(own_index as usize..) {
-                for (place, byte) in place.iter_mut().zip(length.to_be_bytes()) {
-                    *place = byte;
-                }
-            }
-        }
-        let length = buffer_length(random, place.data_length);
-        let mut buffer = Twin::new(pool.slice(random, length));
-        calls.pull(&call, region, &mut buffer);
-    }
-}
-
-/// An index that a hostile partner writes.
-fn hostile_index(random: &mut Random, place: Place, own_index: u32) -> u32 {
-    let data_length = place.data_length as i64;
-    match random.below(8) {
-        0..=2 => place.index(random),
-        3 | 4 => {
-            let near = i64::from(own_index) + 4 * random.between(-3, 3);
-            near.rem_euclid(data_length) as u32
-        }
-        5 => (data_length + random.between(-8, 8)) as u32,
-        _ => place.bad_index(random),
-    }
-}
-
-/// The length that a packet claims, where `unread` bytes are unread.
-fn hostile_length(random: &mut Random, unread: usize) -> u16 {
-    match random.below(4) {
-        0 | 1 => (unread as i64 + random.between(-12, 4)).clamp(0, 65_535) as u16,
-        2 => random.pick(&[
-            0, 1, 3, 4, 0xFF, 0x100, 0xFFF8, 0xFFF9, 0xFFFC, 0xFFFD, 0xFFFF,
-        ]),
-        _ => random.any() as u16,
-    }
-}
-
 /// Any of the faults, in regions of many kinds.
 fn mixed_faults(calls: &mut Calls, random: &mut Random, pool: &Pool, share: u64) {
     for _ in 0..share {
@@ -388,44 +288,6 @@ fn mixed_faults(calls: &mut Calls, random: &mut Random, pool: &Pool, share: u64)
             ring_faults::push(calls, random, pool, place, choice);
         } else {
             ring_faults::pull(calls, random, pool, place, choice);
-        }
-    }
-}
-
-/// Opening numbers as the layout comparison has them.
-fn openings(calls: &mut Calls, random: &mut Random, pool: &Pool, share: u64) {
-    for _ in 0..share {
-        let (_, mixture) = random.pick(&layout_inputs::MIXTURES);
-        let request = mixture(random);
-        // Large regions are rarely lent whole, for the sake of time.
-        let whole = i64::from(request.end) - i64::from(request.begin);
-        let small = whole <= SMALL_REGION || random.one_in(64);
-        let lent_whole = (0..=LARGEST_REGION + 512).contains(&whole) && small;
-        if let Some(place) = Place::new(request).filter(|_| lent_whole) {
-            let mut region = Twin::new(pool.slice(random, place.region_length()));
-            hostile_call(calls, random, pool, place, &mut region);
-            continue;
-        }
-
-        let length = if lent_whole {
-            whole as usize
-        } else {
-            multiple(random, 256)
-        };
-        let mut region = Twin::new(pool.slice(random, length));
-        let call = Call {
-            request,
-            own_index: corner(random),
-            answer_length: answer_length(random),
-            stated: None,
-        };
-        if random.one_in(2) {
-            let length = content_length(random, length);
-            calls.push(&call, &mut region, pool.slice(random, length));
-        } else {
-            let length = buffer_length(random, length);
-            let mut buffer = Twin::new(pool.slice(random, length));
-            calls.pull(&call, &mut region, &mut buffer);
         }
     }
 }

@@ -6,6 +6,9 @@ use crate::random::Random;
 use crate::ring::{Ring, LONGEST_CONTENT, UNIT};
 use crate::ring_calls::ANSWER;
 
+/// The most bytes of a region that is called small.
+pub const SMALL_REGION: i64 = 4096;
+
 /// An accepted region.
 #[derive(Clone, Copy)]
 pub struct Place {
@@ -66,8 +69,8 @@ impl Place {
         })
     }
 
-    /// Any region of up to `most` bytes; small ones are as frequent as large
-    /// ones.
+    /// Any region of up to `most` bytes, and often of just as many; otherwise
+    /// small ones are as frequent as large ones.
     pub fn any(random: &mut Random, most: i64) -> Self {
         loop {
             let numbers = good_numbers(random);
@@ -76,7 +79,11 @@ impl Place {
                 continue;
             }
             let spare = (most - least) >> random.below(20);
-            let size = least + random.between(0, spare);
+            let size = if random.one_in(16) {
+                most
+            } else {
+                least + random.between(0, spare)
+            };
             let mut begin = random.between(0, LAST - size);
             if random.one_in(2) {
                 begin -= begin % i64::from(numbers.alignment);

@@ -31,10 +31,10 @@ pub sound-says : (n : ℕ) (g : Ring) (i : ℕ) → isSound n g i ≡ true → S
 unfolding isSound
 sound-says n g i h =
     let a = both (leb 4 (g .align)) _ h in
-    let b = both (leb (dataAt g + g .data) n) _ (a .1) in
-    let c = both (eqb (g .data % 4) 0) _ (b .1) in
-    let o = in-rule-says (g .data) i (c .1) in
-    record { header = leb-true 4 (g .align) (a .0); inside = leb-true (dataAt g + g .data) n (b .0); data-fours = eqb-true (g .data % 4) 0 (c .0); below = o .0; fours = o .1 }
+    let b = both (leb (dataAt g + g .size) n) _ (a .1) in
+    let c = both (eqb (g .size % 4) 0) _ (b .1) in
+    let o = in-rule-says (g .size) i (c .1) in
+    record { header = leb-true 4 (g .align) (a .0); inside = leb-true (dataAt g + g .size) n (b .0); data-fours = eqb-true (g .size % 4) 0 (c .0); below = o .0; fours = o .1 }
 
 -- ---- used bytes
 
@@ -85,15 +85,15 @@ module _ (n : ℕ) (g : Ring) (r w k : ℕ) (o : Outcome) where
   unfolding pushNumber
   outcome-6 h = rw h
 
-  module _ (h : isSound n g w ≡ true) (x : Room) (e : roomOf x ≡ roomNumber (g .data) r w k) where
+  module _ (h : isSound n g w ≡ true) (x : Room) (e : roomOf x ≡ roomNumber (g .size) r w k) where
     pub outcome-refused : (y : Refusal) → x ≡ Room.Refused y → passed (pushNumber n g r w k) o refusal ≡ refusal (numberOf y)
     unfolding pushNumber
     outcome-refused y q =
-        let z : roomNumber (g .data) r w k ≡ numberOf y = sym e ∙ ap roomOf q in
+        let z : roomNumber (g .size) r w k ≡ numberOf y = sym e ∙ ap roomOf q in
         rw (h, z) (passed-refused (numberOf y) o refusal (number-positive y))
 
     pub outcome-accepted : x ≡ Fits → passed (pushNumber n g r w k) o refusal ≡ o
     unfolding pushNumber
     outcome-accepted q =
-        let z : roomNumber (g .data) r w k ≡ 0 = sym e ∙ ap roomOf q in
+        let z : roomNumber (g .size) r w k ≡ 0 = sym e ∙ ap roomOf q in
         rw (h, z)

@@ -29,9 +29,9 @@ abbrev pub lengthAt : Ring → ℕ → List ℕ → ℕ
 lengthAt g r s = contentLength (bytes s (from g r) 2)
 
 pub look-flat : (g : Ring) (r : ℕ) (s : List ℕ) → answer (lookRule g r) s ≡
-    pick (inRule (g .data) (partner g s))
+    pick (inRule (g .size) (partner g s))
     (pick (not (eqb (partner g s) r))
-    (pick (leb (packetLength (lengthAt g r s)) (used (g .data) r (partner g s)))
+    (pick (leb (packetLength (lengthAt g r s)) (used (g .size) r (partner g s)))
     (found (lengthAt g r s))
     (nothing 9))
     (nothing 8))
@@ -43,12 +43,12 @@ look-flat g r s = simp answer-unless
 pub length-straight : (n : ℕ) (g : Ring) (r : ℕ) (s : List ℕ) → Sound n g r → lengthAt g r s ≡ 256 * getD s (dataAt g + r) 0 + getD s (dataAt g + r + 1) 0
 unfolding contentLength bytes
 length-straight n g r s o =
-    let l : r + 1 < g .data = omega (arith, o .below, o .fours, o .data-fours) in
+    let l : r + 1 < g .size = omega (arith, o .below, o .fours, o .data-fours) in
     rw (add-zero r, mod-eq-of-lt (o .below), mod-eq-of-lt l, add-assoc (dataAt g) r 1)
 
 -- ---- the code's look: w is the partner's index, k the length that it read
 
-module _ (g : Ring) (r : ℕ) (s : List ℕ) (w : ℕ) (p : w ≡ partner g s) (x : Bool) (e : x ≡ inRule (g .data) w) where
+module _ (g : Ring) (r : ℕ) (s : List ℕ) (w : ℕ) (p : w ≡ partner g s) (x : Bool) (e : x ≡ inRule (g .size) w) where
   pub bad-index : not x ≡ true → nothing 7 ≡ answer (lookRule g r) s
   bad-index h = rw (look-flat g r s, ← p, ← e, not-true x h)
 
@@ -56,7 +56,7 @@ module _ (g : Ring) (r : ℕ) (s : List ℕ) (w : ℕ) (p : w ≡ partner g s) (
     pub empty : w ≡ r → nothing 8 ≡ answer (lookRule g r) s
     empty q = rw (look-flat g r s, ← p, ← e, not-false x h, eq-eqb w r q)
 
-    module _ (q : w ≡ r → ⊥) (k l u : ℕ) (c : k ≡ lengthAt g r s) (a : l ≡ packetLength k) (b : u ≡ used (g .data) r w) where
+    module _ (q : w ≡ r → ⊥) (k l u : ℕ) (c : k ≡ lengthAt g r s) (a : l ≡ packetLength k) (b : u ≡ used (g .size) r w) where
       pub packet-found : l ≤ u → found k ≡ answer (lookRule g r) s
       packet-found z = rw (look-flat g r s, ← p, ← e, not-false x h, ne-eqb w r q, ← c, ← a, ← b, le-leb l u z)
 
@@ -70,23 +70,23 @@ is-found true true false k m h = let z : _≡_ {A = ℕ} 0 1 = cc in absurd (ome
 is-found true false c k m h = let z : _≡_ {A = ℕ} 0 1 = cc in absurd (omega arith)
 is-found false b c k m h = let z : _≡_ {A = ℕ} 0 1 = cc in absurd (omega arith)
 
-pub found-fits : (g : Ring) (r : ℕ) (s : List ℕ) (k : ℕ) → answer (lookRule g r) s ≡ found k → 0 < g .data → packetLength k ≤ g .data - 1
+pub found-fits : (g : Ring) (r : ℕ) (s : List ℕ) (k : ℕ) → answer (lookRule g r) s ≡ found k → 0 < g .size → packetLength k ≤ g .size - 1
 unfolding used
 found-fits g r s k h l =
-    let t = is-found (inRule (g .data) (partner g s)) (not (eqb (partner g s) r)) (leb (packetLength (lengthAt g r s)) (used (g .data) r (partner g s))) k (lengthAt g r s) (sym (look-flat g r s) ∙ h) in
-    let f = leb-true (packetLength (lengthAt g r s)) ((partner g s + g .data - r) % g .data) (t .0) in
-    omega (arith, ap packetLength (t .1), mod-lt (partner g s + g .data - r) l)
+    let t = is-found (inRule (g .size) (partner g s)) (not (eqb (partner g s) r)) (leb (packetLength (lengthAt g r s)) (used (g .size) r (partner g s))) k (lengthAt g r s) (sym (look-flat g r s) ∙ h) in
+    let f = leb-true (packetLength (lengthAt g r s)) ((partner g s + g .size - r) % g .size) (t .0) in
+    omega (arith, ap packetLength (t .1), mod-lt (partner g s + g .size - r) l)
 
 -- ---- taking a packet off, as an equation on the bytes
 
 abbrev pub taken : Ring → ℕ → ℕ → List ℕ → ℕ → Outcome
-taken g r b s k = record { answer = accepted k (behind (g .data) r k); region = takenWrites g r k; buffer = writes (straight 0) (bytes s (from g (r + 4)) (min k b)) }
+taken g r b s k = record { answer = accepted k (behind (g .size) r k); region = takenWrites g r k; buffer = writes (straight 0) (bytes s (from g (r + 4)) (min k b)) }
 
 pub take-flat : (g : Ring) (r b : ℕ) (s : List ℕ) (k : ℕ) → answer (takeRule g r b k) s ≡ taken g r b s k
 unfolding takeRule bytes
 take-flat g r b s k =
     answer-readEach (positions (from g (r + 4)) (min k b))
-    (λ bs. gives (record { answer = accepted k (behind (g .data) r k); region = takenWrites g r k; buffer = writes (straight 0) bs })) s
+    (λ bs. gives (record { answer = accepted k (behind (g .size) r k); region = takenWrites g r k; buffer = writes (straight 0) bs })) s
 
 -- ---- the outcome of pull, by what the code's look found
 

@@ -7,9 +7,9 @@ use Rattle.icmsg.specs.declared.Ring.{Ring}
 -- check 6
 pub record Sound (n : ℕ) (g : Ring) (i : ℕ) : Type 0 where
   pub header : 4 ≤ g .align
-  pub inside : dataAt g + g .data ≤ n
-  pub data-fours : g .data % 4 ≡ 0
-  pub below : i < g .data
+  pub inside : dataAt g + g .size ≤ n
+  pub data-fours : g .size % 4 ≡ 0
+  pub below : i < g .size
   pub fours : i % 4 ≡ 0
 
 -- checks 11, 7 and 10

@@ -53,16 +53,16 @@ roomOf (Room.Refused x) = numberOf x
 
 -- 6 comes before
 unfoldable pub pushNumber : ℕ → Ring → ℕ → ℕ → ℕ → ℕ
-pushNumber n g r w k = check (isSound n g w) 6 (roomNumber (g .data) r w k)
+pushNumber n g r w k = check (isSound n g w) 6 (roomNumber (g .size) r w k)
 
 -- the packet at the own index, then the index behind it written out
 unfoldable pub pushWrites : Ring → ℕ → List ℕ → List (ℕ × ℕ)
-pushWrites g w c = writes (from g w) (packet c) ++ writes (straight (writeIndexAt g)) (littleEndian 4 (behind (g .data) w (length c)))
+pushWrites g w c = writes (from g w) (packet c) ++ writes (straight (writeIndexAt g)) (littleEndian 4 (behind (g .size) w (length c)))
 
 -- what is written before it, and the push
 abbrev pub pushed : List (ℕ × ℕ) → Ring → ℕ → List ℕ → Outcome
 pushed before g w c =
-    record { answer = accepted (length c) (behind (g .data) w (length c)); region = before ++ pushWrites g w c; buffer = [] }
+    record { answer = accepted (length c) (behind (g .size) w (length c)); region = before ++ pushWrites g w c; buffer = [] }
 
 unfoldable pub pushRule : List ℕ → Ring → ℕ → List ℕ → Outcome
 pushRule s g w c = passed (pushNumber (length s) g (indexAt s (readIndexAt g)) w (length c)) (pushed [] g w c) refusal
@@ -88,24 +88,24 @@ foundOf (Nothing x) = nothing (numberOf x)
 -- "Pull checks 7, 8, 9": with the partner's index w and the own index r
 unfoldable pub lookAt : Ring → ℕ → ℕ → Reads Found
 lookAt g r w =
-    unless (inRule (g .data) w) (nothing 7)
+    unless (inRule (g .size) w) (nothing 7)
     (unless (not (eqb w r)) (nothing 8)
     (readEach (positions (from g r) 2) (λ bs.
-    unless (leb (packetLength (contentLength bs)) (used (g .data) r w)) (nothing 9)
+    unless (leb (packetLength (contentLength bs)) (used (g .size) r w)) (nothing 9)
     (gives (found (contentLength bs))))))
 
 unfoldable pub lookRule : Ring → ℕ → Reads Found
 lookRule g r = readEach (positions (straight (writeIndexAt g)) 4) (λ bs. lookAt g r (fromLittleEndian bs))
 
 unfoldable pub takenWrites : Ring → ℕ → ℕ → List (ℕ × ℕ)
-takenWrites g r k = writes (straight (readIndexAt g)) (littleEndian 4 (behind (g .data) r k))
+takenWrites g r k = writes (straight (readIndexAt g)) (littleEndian 4 (behind (g .size) r k))
 
 -- "it copies the first bytes that fit the caller's buffer, reports the packet's whole length, and moves past the whole packet"
 unfoldable pub takeRule : Ring → ℕ → ℕ → ℕ → Reads Outcome
 takeRule g r b k =
     readEach (positions (from g (r + 4)) (min k b)) (λ bs.
     gives (record {
-      answer = accepted k (behind (g .data) r k);
+      answer = accepted k (behind (g .size) r k);
       region = takenWrites g r k;
       buffer = writes (straight 0) bs;
     }))

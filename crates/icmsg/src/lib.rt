@@ -14,7 +14,7 @@ use refusal::Refusal;
 pub struct Ring {
     pub begin: u32,
     pub align: u32,
-    pub data: u32,
+    pub size: u32,
 }
 
 // What a ring call answers: the content's whole length and the own index behind the packet, or why it is refused.
@@ -64,8 +64,8 @@ fn is_sound(n: usize, ring: Ring, own: u32) -> bool
 {
     let begin = ring.begin as usize;
     let align = ring.align as usize;
-    let data = ring.data as usize;
-    (4 <= align) & ((begin + align + 4 + data <= n) & ((data % 4 == 0) & in_rule(ring.data, own)))
+    let data = ring.size as usize;
+    (4 <= align) & ((begin + align + 4 + data <= n) & ((data % 4 == 0) & in_rule(ring.size, own)))
 }
 
 // The length of a packet with k bytes of content.
@@ -110,12 +110,12 @@ fn check_room(d: u32, r: u32, w: u32, k: usize) -> Room
 // Puts the packet at the own index w. Its first four bytes never wrap, since the index and the data length are multiples of 4.
 fn put_packet(region: &mut [u8], ring: Ring, w: u32, content: &[u8])
     requires { ⌜ Sound (length (now region)) ring w ⌝ }
-    requires { ⌜ (length (now content) ≤ 65535) × (packetLength (length (now content)) ≤ ring .data - 1) ⌝ }
+    requires { ⌜ (length (now content) ≤ 65535) × (packetLength (length (now content)) ≤ ring .size - 1) ⌝ }
     ensures { λ _. ⌜ now (region .exit) ≡ wrote (now (region .entry)) (writes (from ring w) (packet (now (content .entry)))) ⌝ }
 {
     let k = content.len();
     let b = ring.begin as usize + ring.align as usize + 4;
-    let data = ring.data;
+    let data = ring.size;
     let d = data as usize;
     let zeros = [0u8; 4];
     let padding = packet_length(k) - 4 - k;
@@ -139,11 +139,11 @@ fn put_packet(region: &mut [u8], ring: Ring, w: u32, content: &[u8])
 // Puts the packet, writes the index behind it out, and gives that index.
 fn put(region: &mut [u8], ring: Ring, w: u32, content: &[u8]) -> u32
     requires { ⌜ Sound (length (now region)) ring w ⌝ }
-    requires { ⌜ (length (now content) ≤ 65535) × (packetLength (length (now content)) ≤ ring .data - 1) ⌝ }
-    ensures index { λ r. ⌜ r ≡ behind (ring .data) w (length (now (content .entry))) ⌝ }
+    requires { ⌜ (length (now content) ≤ 65535) × (packetLength (length (now content)) ≤ ring .size - 1) ⌝ }
+    ensures index { λ r. ⌜ r ≡ behind (ring .size) w (length (now (content .entry))) ⌝ }
     ensures region { λ _. ⌜ now (region .exit) ≡ wrote (now (region .entry)) (pushWrites ring w (now (content .entry))) ⌝ }
 {
-    let next = wire::around::moved(ring.data, w, packet_length(content.len()));
+    let next = wire::around::moved(ring.size, w, packet_length(content.len()));
     put_packet(region, ring, w, content);
     wire::write_u32(region, ring.begin as usize + ring.align as usize, next);
     next
@@ -159,7 +159,7 @@ pub fn push(region: &mut [u8], ring: Ring, own: u32, content: &[u8]) -> RingAnsw
     }
     let k = content.len();
     let partner = wire::read_u32(region, ring.begin as usize);
-    match check_room(ring.data, partner, own, k) {
+    match check_room(ring.size, partner, own, k) {
         Room::Refused(x) => RingAnswer::Refused(x),
         Room::Fits => {
             let index = put(region, ring, own, content);
@@ -179,7 +179,7 @@ pub fn start(region: &mut [u8], ring: Ring) -> RingAnswer
     if !is_sound(region.len(), ring, 0) {
         return RingAnswer::Refused(Refusal::WrongRegion);
     }
-    match check_room(ring.data, 0, 0, 13) {
+    match check_room(ring.size, 0, 0, 13) {
         Room::Refused(x) => RingAnswer::Refused(x),
         Room::Fits => {
             let begin = ring.begin as usize;
@@ -217,7 +217,7 @@ fn look(region: &[u8], ring: Ring, r: u32) -> NextPacket
     requires { ⌜ Sound (length (now region)) ring r ⌝ }
     ensures { λ x. ⌜ foundOf x ≡ answer (lookRule ring r) (now (region .entry)) ⌝ }
 {
-    let d = ring.data;
+    let d = ring.size;
     let w = wire::read_u32(region, ring.begin as usize + ring.align as usize);
     if !in_rule(d, w) {
         return NextPacket::Nothing(Refusal::BadIndex);
@@ -236,13 +236,13 @@ fn look(region: &[u8], ring: Ring, r: u32) -> NextPacket
 // Copies the first bytes of the content that fit the buffer, writes the index behind the packet out, and gives that index.
 fn take(region: &mut [u8], ring: Ring, r: u32, k: u32, buffer: &mut [u8]) -> u32
     requires { ⌜ Sound (length (now region)) ring r ⌝ }
-    requires { ⌜ packetLength k ≤ ring .data - 1 ⌝ }
-    ensures index { λ i. ⌜ i ≡ behind (ring .data) r k ⌝ }
+    requires { ⌜ packetLength k ≤ ring .size - 1 ⌝ }
+    ensures index { λ i. ⌜ i ≡ behind (ring .size) r k ⌝ }
     ensures region { λ _. ⌜ now (region .exit) ≡ wrote (now (region .entry)) (takenWrites ring r k) ⌝ }
     ensures buffer { λ _. ⌜ now (buffer .exit) ≡ wrote (now (buffer .entry)) (writes (straight 0) (bytes (now (region .entry)) (from ring (r + 4)) (min k (length (now (buffer .entry)))))) ⌝ }
 {
     let b = ring.begin as usize + ring.align as usize + 4;
-    let data = ring.data;
+    let data = ring.size;
     let k = k as usize;
     let n = wire::least(k, buffer.len());
     let next = wire::around::moved(data, r, packet_length(k));

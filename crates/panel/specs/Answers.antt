@@ -4,6 +4,7 @@ use mathlib.Core.List.{List, [], _∷_}
 use lib.ListN.{length, take}
 use Rattle.wire.specs.Bytes.{straight, writes, wrote}
 use Rattle.region.specs.Layout.{Outcome}
+use Rattle.icmsg.specs.Rules.{Answer, refused, accepted}
 
 -- the caller's numbers s after an answer: as many of the answer's as fit, and the rest of s as it was
 unfoldable pub answered : List ℕ → List ℕ → List ℕ
@@ -12,3 +13,12 @@ answered s numbers = wrote s (writes (straight 0) (take (length s) numbers))
 -- the five numbers of a layout
 abbrev pub layoutNumbers : Outcome → List ℕ
 layoutNumbers y = y .begin ∷ y .dataLength ∷ y .blocksBegin ∷ y .blockSize ∷ y .end ∷ []
+
+-- the number of a ring call's answer, and its two numbers: the length, 0 on a refusal, and the own index, which a refusal leaves as it was
+abbrev pub ringNumber : Answer → ℕ
+ringNumber (refused n) = n
+ringNumber (accepted k i) = 0
+
+abbrev pub ringNumbers : ℕ → Answer → List ℕ
+ringNumbers own (refused n) = 0 ∷ own ∷ []
+ringNumbers own (accepted k i) = k ∷ i ∷ []

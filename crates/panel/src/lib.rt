@@ -1,8 +1,22 @@
-// The interface for C: layout on plain numbers. include/petrelknob.h declares it.
+// The interface for C: layout, push and pull on plain numbers and slices. include/petrelknob.h declares it.
 ghost use mathlib.Core.Path.{_≡_};
+ghost use Prim.Native.Nat.{_-_};
+ghost use lib.ListN.{length};
+ghost use Rattle.wire.specs.Bytes.{wrote};
 ghost use Rattle.region.specs.Layout.{layout};
-ghost use Rattle.panel.specs.Answers.{answered, layoutNumbers};
+ghost use Rattle.icmsg.specs.Rules.{answerOf};
+ghost use Rattle.panel.specs.Answers.{answered, layoutNumbers, ringNumber, ringNumbers};
+ghost use Rattle.panel.specs.Calls.{openNumber, ringIn, pushCall, pullCall, openedNumber, OpensRing};
+use icmsg::Ring;
+use icmsg::RingAnswer;
+use refusal::Refusal;
 use region::LayoutAnswer;
+
+// The ring of a region that is lent whole, or why there is none.
+enum Opened {
+    Whole(Ring),
+    Refused(Refusal),
+}
 
 // Puts as many of the numbers as fit into the caller's answer.
 fn put_numbers(answer: &mut [u32], numbers: &[u32])
@@ -39,6 +53,99 @@ pub extern "C" fn petrelknob_layout(
             let numbers = [0u32; 5];
             put_numbers(answer, &numbers);
             x.number()
+        }
+    }
+}
+
+// The ring in a slice of n bytes that is lent for the region.
+fn open_ring(begin: u32, end: u32, local: u32, remote: u32, alignment: u32, n: usize) -> Opened
+    ensures number { λ r. ⌜ openedNumber r ≡ openNumber begin end local remote alignment n ⌝ }
+    ensures ring { λ r. ⌜ OpensRing r (ringIn begin end local remote alignment) ⌝ }
+{
+    match region::layout(begin, end, local, remote, alignment) {
+        LayoutAnswer::Refused(x) => Opened::Refused(x),
+        LayoutAnswer::Accepted(y) => {
+            if n == (end - begin) as usize {
+                Opened::Whole(Ring {
+                    begin: y.begin - begin,
+                    align: alignment,
+                    size: y.data,
+                })
+            } else {
+                Opened::Refused(Refusal::WrongRegion)
+            }
+        }
+    }
+}
+
+// Puts a ring call's length and own index into the caller's answer, and gives its number.
+fn give(answer: &mut [u32], own: u32, a: RingAnswer) -> u32
+    ensures number { λ r. ⌜ r ≡ ringNumber (answerOf a) ⌝ }
+    ensures numbers { λ _. ⌜ now (answer .exit) ≡ answered (now (answer .entry)) (ringNumbers own (answerOf a)) ⌝ }
+{
+    match a {
+        RingAnswer::Accepted { length, index } => {
+            let numbers = [length, index];
+            put_numbers(answer, &numbers);
+            0
+        }
+        RingAnswer::Refused(x) => {
+            let numbers = [0, own];
+            put_numbers(answer, &numbers);
+            x.number()
+        }
+    }
+}
+
+// Puts a packet with the content on the region's ring, at the own write index.
+#[no_mangle]
+pub extern "C" fn petrelknob_push(
+    begin: u32,
+    end: u32,
+    local: u32,
+    remote: u32,
+    alignment: u32,
+    own: u32,
+    region: &mut [u8],
+    content: &[u8],
+    answer: &mut [u32],
+) -> u32
+    ensures number { λ r. ⌜ r ≡ ringNumber (pushCall begin end local remote alignment own (now (region .entry)) (now (content .entry)) .answer) ⌝ }
+    ensures region { λ _. ⌜ now (region .exit) ≡ wrote (now (region .entry)) (pushCall begin end local remote alignment own (now (region .entry)) (now (content .entry)) .region) ⌝ }
+    ensures numbers { λ _. ⌜ now (answer .exit) ≡ answered (now (answer .entry)) (ringNumbers own (pushCall begin end local remote alignment own (now (region .entry)) (now (content .entry)) .answer)) ⌝ }
+{
+    match open_ring(begin, end, local, remote, alignment, region.len()) {
+        Opened::Refused(x) => give(answer, own, RingAnswer::Refused(x)),
+        Opened::Whole(ring) => {
+            let a = icmsg::push(region, ring, own, content);
+            give(answer, own, a)
+        }
+    }
+}
+
+// Takes the next packet off the region's ring, at the own read index.
+#[no_mangle]
+pub extern "C" fn petrelknob_pull(
+    begin: u32,
+    end: u32,
+    local: u32,
+    remote: u32,
+    alignment: u32,
+    own: u32,
+    region: &mut [u8],
+    buffer: &mut [u8],
+    answer: &mut [u32],
+) -> u32
+    ensures number { λ r. ⌜ r ≡ ringNumber (pullCall begin end local remote alignment own (now (region .entry)) (length (now (buffer .entry))) .answer) ⌝ }
+    ensures region { λ _. ⌜ now (region .exit) ≡ wrote (now (region .entry)) (pullCall begin end local remote alignment own (now (region .entry)) (length (now (buffer .entry))) .region) ⌝ }
+    ensures buffer { λ _. ⌜ now (buffer .exit) ≡ wrote (now (buffer .entry)) (pullCall begin end local remote alignment own (now (region .entry)) (length (now (buffer .entry))) .buffer) ⌝ }
+    ensures numbers { λ _. ⌜ now (answer .exit) ≡ answered (now (answer .entry)) (ringNumbers own (pullCall begin end local remote alignment own (now (region .entry)) (length (now (buffer .entry))) .answer)) ⌝ }
+{
+    match open_ring(begin, end, local, remote, alignment, region.len()) {
+        Opened::Refused(x) => give(answer, own, RingAnswer::Refused(x)),
+        Opened::Whole(ring) => {
+            let a = icmsg::pull(region, ring, own, buffer);
+            give(answer, own, a)
         }
     }
 }

@@ -4,7 +4,7 @@ use mathlib.Core.Path.{_≡_, refl, sym, ap, ap₂, _∙_}
 use mathlib.Core.Bool.{Bool, true, false}
 use mathlib.Core.List.{List, [], _∷_, _++_}
 use native.Mathlib.Omega.{arith}
-use native.Mathlib.Nat.{zero-add, suc-add, le-refl, le-of-suc-le-suc, not-suc-le-zero, min-eq-left, min-eq-right}
+use native.Mathlib.Nat.{zero-add, suc-add, add-assoc, le-refl, le-of-suc-le-suc, not-suc-le-zero, min-eq-left, min-eq-right}
 use lib.Dec.{leb}
 use borrow.Author.Tests.{leb-true, leb-false}
 use lib.ListN.{length, getD, set, take, length-set}
@@ -139,3 +139,21 @@ bytes-read-back s p (b ∷ bs) inside apart =
     (byte-kept s′ (writes p′ bs) (p 0) (outside-writes p′ bs (p 0) (λ j lt. apart 0 (suc j) (omega arith) (suc-le-suc lt)))
     ∙ getD-set-same s (p 0) b 0 (inside 0 (omega arith)))
     (bytes-read-back s′ p′ bs (λ j lt. rw (length-set s (p 0) b) (inside (suc j) (suc-le-suc lt))) (λ i j l lt. apart (suc i) (suc j) (suc-le-suc l) (suc-le-suc lt)))
+
+-- ---- copies in pieces
+
+-- by way of a list z that is long enough
+pub copied-by-way : (z s : List ℕ) (q : ℕ → ℕ) (n : ℕ) → n ≤ length z → bytes (wrote z (writes (straight 0) (bytes s q n))) (straight 0) n ≡ bytes s q n
+copied-by-way z s q n h =
+    ap (λ (m : ℕ). bytes (wrote z (writes (straight 0) (bytes s q n))) (straight 0) m) (sym (length-bytes s q n))
+    ∙ bytes-read-back z (straight 0) (bytes s q n)
+    (λ j lt. omega (arith, rw (length-bytes s q n) at lt))
+    (λ i j lt _ e. omega arith)
+
+-- a straight copy that goes on where another ended
+pub copied-on : (d s : List ℕ) (to from i k : ℕ) →
+    wrote (wrote d (writes (straight to) (bytes s (straight from) i))) (writes (straight (to + i)) (bytes s (straight (from + i)) k))
+    ≡ wrote d (writes (straight to) (bytes s (straight from) (i + k)))
+copied-on d s to from i k =
+    two-copies s d (straight to) (straight to) (straight (to + i)) (straight from) (straight from) (straight (from + i)) i k
+    (λ j lt. refl) (λ j lt. add-assoc to i j) (λ j lt. refl) (λ j lt. add-assoc from i j)

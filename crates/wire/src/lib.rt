@@ -6,8 +6,8 @@ ghost use Prim.Native.Nat.{_+_, _<_, _≤_, min};
 ghost use lib.ListN.{length};
 ghost use Rattle.wire.specs.Bytes.{littleEndian, fromLittleEndian, straight, bytes, writes, wrote, same as sameBytes};
 
-// Copies n bytes of src, from position `from` on, into dst, from position `to` on. It compiles to memcpy.
-pub fn copy(dst: &mut [u8], to: usize, src: &[u8], from: usize, n: usize)
+// Copies n bytes one by one.
+fn copy_bytes(dst: &mut [u8], to: usize, src: &[u8], from: usize, n: usize)
     requires { ⌜ to + n ≤ length (now dst) ⌝ }
     requires { ⌜ from + n ≤ length (now src) ⌝ }
     ensures { λ _. ⌜ now (dst .exit) ≡ wrote (now (dst .entry)) (writes (straight to) (bytes (now (src .entry)) (straight from) n)) ⌝ }
@@ -16,6 +16,35 @@ pub fn copy(dst: &mut [u8], to: usize, src: &[u8], from: usize, n: usize)
     while i < n {
         dst[to + i] = src[from + i];
         i += 1;
+    }
+}
+
+// Copies n bytes by way of a local array. The compiler does not know that dst and src are apart, and a copy from one to the other would
+// stay a loop; by way of an array that no one else sees it becomes one memmove, and the array goes.
+fn copy_piece(dst: &mut [u8], to: usize, src: &[u8], from: usize, n: usize)
+    requires { ⌜ n ≤ 1024 ⌝ }
+    requires { ⌜ to + n ≤ length (now dst) ⌝ }
+    requires { ⌜ from + n ≤ length (now src) ⌝ }
+    ensures { λ _. ⌜ now (dst .exit) ≡ wrote (now (dst .entry)) (writes (straight to) (bytes (now (src .entry)) (straight from) n)) ⌝ }
+{
+    let mut piece = [0u8; PIECE];
+    copy_bytes(&mut piece, 0, src, from, n);
+    copy_bytes(dst, to, &piece, 0, n);
+}
+
+const PIECE: usize = 1024;
+
+// Copies n bytes of src, from position `from` on, into dst, from position `to` on.
+pub fn copy(dst: &mut [u8], to: usize, src: &[u8], from: usize, n: usize)
+    requires { ⌜ to + n ≤ length (now dst) ⌝ }
+    requires { ⌜ from + n ≤ length (now src) ⌝ }
+    ensures { λ _. ⌜ now (dst .exit) ≡ wrote (now (dst .entry)) (writes (straight to) (bytes (now (src .entry)) (straight from) n)) ⌝ }
+{
+    let mut done = 0;
+    while done < n {
+        let k = least(n - done, PIECE);
+        copy_piece(dst, to + done, src, from + done, k);
+        done += k;
     }
 }
 

@@ -17,12 +17,12 @@ sound : (c : tie.Else1) → isSound (length (c .before .before .before .before .
 sound c = sym (c .before .is-sound .ensures) ∙ not-false _ (c .if1 .left)
 
 checked : (c : tie.After-check-room) → let s = c .before .before .before .before .before .before .before .before .args in
-    roomOf (c .check-room .result) ≡ roomNumber (s .ring .data) (indexAt (s .region .now) (s .ring .begin)) (s .own) (length (s .content .now))
+    roomOf (c .check-room .result) ≡ roomNumber (s .ring .size) (indexAt (s .region .now) (s .ring .begin)) (s .own) (length (s .content .now))
 unfolding indexAt
 checked c = rw (← c .before .read-u32 .ensures) (c .check-room .ensures)
 
 has-room : (c : tie.After-enum-told) → let s = c .before .before .before .before .before .before .before .before .before .before .args in
-    HasRoom (s .ring .data) (indexAt (s .region .now) (s .ring .begin)) (s .own) (length (s .content .now))
+    HasRoom (s .ring .size) (indexAt (s .region .now) (s .ring .begin)) (s .own) (length (s .content .now))
 has-room c = room-says _ _ _ _ (sym (checked (c .before .before)) ∙ ap roomOf (c .enum-told .given .1))
 
 is-sound-requires : tie.Need-is-sound-requires

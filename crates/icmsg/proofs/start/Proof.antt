@@ -17,7 +17,7 @@ use Rattle.icmsg.proofs.start.Tie as tie
 sound : (c : tie.Else1) → isSound (length (c .before .before .before .args .region .now)) (c .before .before .before .args .ring) 0 ≡ true
 sound c = sym (c .before .is-sound .ensures) ∙ not-false _ (c .if1 .left)
 
-has-room : (c : tie.After-enum-told) → HasRoom (c .before .before .before .before .before .before .args .ring .data) 0 0 13
+has-room : (c : tie.After-enum-told) → HasRoom (c .before .before .before .before .before .before .args .ring .size) 0 0 13
 has-room c = room-says _ _ _ _ (sym (c .before .before .check-room .ensures) ∙ ap roomOf (c .enum-told .given .1))
 
 is-sound-requires : tie.Need-is-sound-requires

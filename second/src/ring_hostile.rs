@@ -1,0 +1,159 @@
+//! Calls on memory and with numbers that nobody vouches for.
+
+use crate::layout::{Request, LARGEST_REGION};
+use crate::layout_inputs::{corner, MIXTURES};
+use crate::random::{Pool, Random};
+use crate::ring_calls::{Call, Calls};
+use crate::ring_inputs::{answer_length, buffer_length, content_length, Place, SMALL_REGION};
+use crate::twin::Twin;
+
+/// A partner that writes what it likes to the region between two calls.
+pub fn hostile_partner(calls: &mut Calls, random: &mut Random, pool: &Pool, share: u64) {
+    const CALLS: u64 = 40;
+    let mut left = share;
+    while left > 0 {
+        let place = Place::any(random, SMALL_REGION);
+        let mut region = Twin::new(pool.slice(random, place.region_length()));
+        let calls_here = left.min(CALLS);
+        left -= calls_here;
+        for _ in 0..calls_here {
+            hostile_call(calls, random, pool, place, &mut region);
+        }
+    }
+}
+
+/// A call after the partner, or whoever else, has written to the ring.
+fn hostile_call(
+    calls: &mut Calls,
+    random: &mut Random,
+    pool: &Pool,
+    place: Place,
+    region: &mut Twin<u8>,
+) {
+    if random.one_in(8) {
+        let bytes = pool.slice(random, place.data_length);
+        for region in region.lend() {
+            place.ring(region).data.copy_from_slice(bytes);
+        }
+    }
+    let own_index = if random.one_in(16) {
+        place.bad_index(random)
+    } else {
+        place.index(random)
+    };
+    let partner_index = hostile_index(random, place, own_index);
+    // Nobody reads the own index in memory, so it may mislead.
+    let stale_index = hostile_index(random, place, own_index);
+    let call = Call {
+        request: place.request,
+        own_index,
+        answer_length: answer_length(random),
+        stated: None,
+    };
+    // Bytes from the own index on to the partner's, for lengths near a limit;
+    // of bad indexes any number will do.
+    let ahead = (i64::from(partner_index) - i64::from(own_index))
+        .rem_euclid(place.data_length as i64) as usize;
+
+    if random.one_in(2) {
+        for region in region.lend() {
+            let ring = place.ring(region);
+            *ring.read_index = partner_index.to_le_bytes();
+            *ring.write_index = stale_index.to_le_bytes();
+        }
+        let room = if ahead == 0 { place.data_length } else { ahead } - 1;
+        let length = content_length(random, room);
+        calls.push(&call, region, pool.slice(random, length));
+    } else {
+        let length = hostile_length(random, ahead);
+        for region in region.lend() {
+            let ring = place.ring(region);
+            *ring.read_index = stale_index.to_le_bytes();
+            *ring.write_index = partner_index.to_le_bytes();
+            let packet = ring.data.iter_mut().skip(own_index as usize);
+            for (place, byte) in packet.zip(length.to_be_bytes()) {
+                *place = byte;
+            }
+        }
+        let length = buffer_length(random, place.data_length);
+        let mut buffer = Twin::new(pool.slice(random, length));
+        calls.pull(&call, region, &mut buffer);
+    }
+}
+
+/// An index that a hostile partner writes.
+fn hostile_index(random: &mut Random, place: Place, own_index: u32) -> u32 {
+    let data_length = place.data_length as i64;
+    match random.below(8) {
+        0..=2 => place.index(random),
+        3 | 4 => {
+            let near = i64::from(own_index) + 4 * random.between(-3, 3);
+            near.rem_euclid(data_length) as u32
+        }
+        5 => (data_length + random.between(-8, 8)) as u32,
+        _ => place.bad_index(random),
+    }
+}
+
+/// The length that a packet claims, where `unread` bytes are unread.
+fn hostile_length(random: &mut Random, unread: usize) -> u16 {
+    match random.below(4) {
+        0 | 1 => (unread as i64 + random.between(-12, 4)).clamp(0, 65_535) as u16,
+        2 => random.pick(&[
+            0, 1, 3, 4, 0xFF, 0x100, 0xFFF8, 0xFFF9, 0xFFFC, 0xFFFD, 0xFFFF,
+        ]),
+        _ => random.any() as u16,
+    }
+}
+
+/// Opening numbers as the layout comparison has them.
+pub fn openings(calls: &mut Calls, random: &mut Random, pool: &Pool, share: u64) {
+    for _ in 0..share {
+        let (_, mixture) = random.pick(&MIXTURES);
+        let request = mixture(random);
+        let whole = i64::from(request.end) - i64::from(request.begin);
+        // Large regions are rarely lent whole, for the sake of time.
+        let most = if random.one_in(64) {
+            LARGEST_REGION + 512
+        } else {
+            SMALL_REGION
+        };
+        let lent_length = if (0..=most).contains(&whole) {
+            whole as usize
+        } else {
+            random.below(256) as usize
+        };
+        let mut region = Twin::new(pool.slice(random, lent_length));
+        match Place::new(request) {
+            Some(place) if place.region_length() == lent_length => {
+                hostile_call(calls, random, pool, place, &mut region);
+            }
+            _ => refused_call(calls, random, pool, request, &mut region),
+        }
+    }
+}
+
+/// A call with a refused layout or a region that is not lent whole.
+fn refused_call(
+    calls: &mut Calls,
+    random: &mut Random,
+    pool: &Pool,
+    request: Request,
+    region: &mut Twin<u8>,
+) {
+    let call = Call {
+        request,
+        own_index: corner(random),
+        answer_length: answer_length(random),
+        stated: None,
+    };
+    let lent_length = region.second().len();
+    if random.one_in(2) {
+        let length = content_length(random, lent_length);
+        calls.push(&call, region, pool.slice(random, length));
+    } else {
+        let length = buffer_length(random, lent_length);
+        let mut buffer = Twin::new(pool.slice(random, length));
+        calls.pull(&call, region, &mut buffer);
+    }
+}
