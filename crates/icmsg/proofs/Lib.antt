@@ -1,3 +1,6 @@
 pub mod Checks
 pub mod Packets
 pub mod Pulls
+pub mod PullReads
+pub mod Indexes
+pub mod RoundTrip

@@ -1,3 +1,4 @@
 pub mod Ring
 pub mod Rules
+pub mod Reading
 pub mod Laws

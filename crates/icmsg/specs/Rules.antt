@@ -22,6 +22,11 @@ pub data Answer : Type 0 where
   refused : (number : ℕ) → Answer
   accepted : (length index : ℕ) → Answer
 
+-- 0 is accepted
+abbrev pub answerNumber : Answer → ℕ
+answerNumber (refused n) = n
+answerNumber (accepted k i) = 0
+
 -- All of a call: its answer, and what it writes to the region and to the caller's buffer.
 pub record Outcome : Type 0 where
   pub answer : Answer
@@ -68,11 +73,11 @@ unfoldable pub pushRule : List ℕ → Ring → ℕ → List ℕ → Outcome
 pushRule s g w c = passed (pushNumber (length s) g (indexAt s (readIndexAt g)) w (length c)) (pushed [] g w c) refusal
 
 -- "Start writes both indexes as zero in the transmit region, then pushes the 13 bytes": the push starts from these indexes
+abbrev pub zeroIndexes : Ring → List (ℕ × ℕ)
+zeroIndexes g = writes (straight (readIndexAt g)) (littleEndian 4 0) ++ writes (straight (writeIndexAt g)) (littleEndian 4 0)
+
 unfoldable pub startRule : ℕ → Ring → Outcome
-startRule n g =
-    passed (pushNumber n g 0 0 (length startContent))
-    (pushed (writes (straight (readIndexAt g)) (littleEndian 4 0) ++ writes (straight (writeIndexAt g)) (littleEndian 4 0)) g 0 startContent)
-    refusal
+startRule n g = passed (pushNumber n g 0 0 (length startContent)) (pushed (zeroIndexes g) g 0 startContent) refusal
 
 -- ---- pull
 

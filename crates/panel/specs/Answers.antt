@@ -14,11 +14,7 @@ answered s numbers = wrote s (writes (straight 0) (take (length s) numbers))
 abbrev pub layoutNumbers : Outcome → List ℕ
 layoutNumbers y = y .begin ∷ y .dataLength ∷ y .blocksBegin ∷ y .blockSize ∷ y .end ∷ []
 
--- the number of a ring call's answer, and its two numbers: the length, 0 on a refusal, and the own index, which a refusal leaves as it was
-abbrev pub ringNumber : Answer → ℕ
-ringNumber (refused n) = n
-ringNumber (accepted k i) = 0
-
+-- the two numbers of a ring call's answer: the length, 0 on a refusal, and the own index, which a refusal leaves as it was
 abbrev pub ringNumbers : ℕ → Answer → List ℕ
 ringNumbers own (refused n) = 0 ∷ own ∷ []
 ringNumbers own (accepted k i) = k ∷ i ∷ []

@@ -4,8 +4,8 @@ ghost use Prim.Native.Nat.{_-_};
 ghost use lib.ListN.{length};
 ghost use Rattle.wire.specs.Bytes.{wrote};
 ghost use Rattle.region.specs.Layout.{layout};
-ghost use Rattle.icmsg.specs.Rules.{answerOf};
-ghost use Rattle.panel.specs.Answers.{answered, layoutNumbers, ringNumber, ringNumbers};
+ghost use Rattle.icmsg.specs.Rules.{answerOf, answerNumber};
+ghost use Rattle.panel.specs.Answers.{answered, layoutNumbers, ringNumbers};
 ghost use Rattle.panel.specs.Calls.{openNumber, ringIn, pushCall, pullCall, openedNumber, OpensRing};
 use icmsg::Ring;
 use icmsg::RingAnswer;
@@ -80,7 +80,7 @@ fn open_ring(begin: u32, end: u32, local: u32, remote: u32, alignment: u32, n: u
 
 // Puts a ring call's length and own index into the caller's answer, and gives its number.
 fn give(answer: &mut [u32], own: u32, a: RingAnswer) -> u32
-    ensures number { λ r. ⌜ r ≡ ringNumber (answerOf a) ⌝ }
+    ensures number { λ r. ⌜ r ≡ answerNumber (answerOf a) ⌝ }
     ensures numbers { λ _. ⌜ now (answer .exit) ≡ answered (now (answer .entry)) (ringNumbers own (answerOf a)) ⌝ }
 {
     match a {
@@ -110,7 +110,7 @@ pub extern "C" fn petrelknob_push(
     content: &[u8],
     answer: &mut [u32],
 ) -> u32
-    ensures number { λ r. ⌜ r ≡ ringNumber (pushCall begin end local remote alignment own (now (region .entry)) (now (content .entry)) .answer) ⌝ }
+    ensures number { λ r. ⌜ r ≡ answerNumber (pushCall begin end local remote alignment own (now (region .entry)) (now (content .entry)) .answer) ⌝ }
     ensures region { λ _. ⌜ now (region .exit) ≡ wrote (now (region .entry)) (pushCall begin end local remote alignment own (now (region .entry)) (now (content .entry)) .region) ⌝ }
     ensures numbers { λ _. ⌜ now (answer .exit) ≡ answered (now (answer .entry)) (ringNumbers own (pushCall begin end local remote alignment own (now (region .entry)) (now (content .entry)) .answer)) ⌝ }
 {
@@ -136,7 +136,7 @@ pub extern "C" fn petrelknob_pull(
     buffer: &mut [u8],
     answer: &mut [u32],
 ) -> u32
-    ensures number { λ r. ⌜ r ≡ ringNumber (pullCall begin end local remote alignment own (now (region .entry)) (length (now (buffer .entry))) .answer) ⌝ }
+    ensures number { λ r. ⌜ r ≡ answerNumber (pullCall begin end local remote alignment own (now (region .entry)) (length (now (buffer .entry))) .answer) ⌝ }
     ensures region { λ _. ⌜ now (region .exit) ≡ wrote (now (region .entry)) (pullCall begin end local remote alignment own (now (region .entry)) (length (now (buffer .entry))) .region) ⌝ }
     ensures buffer { λ _. ⌜ now (buffer .exit) ≡ wrote (now (buffer .entry)) (pullCall begin end local remote alignment own (now (region .entry)) (length (now (buffer .entry))) .buffer) ⌝ }
     ensures numbers { λ _. ⌜ now (answer .exit) ≡ answered (now (answer .entry)) (ringNumbers own (pullCall begin end local remote alignment own (now (region .entry)) (length (now (buffer .entry))) .answer)) ⌝ }

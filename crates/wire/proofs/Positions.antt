@@ -1,5 +1,5 @@
 -- Laws of bytes by their positions, over any place and any length.
-use Prim.Native.Nat.{ℕ, zero, suc, _+_, _<_, _≤_, min, suc-le-suc}
+use Prim.Native.Nat.{ℕ, zero, suc, _+_, _<_, _-_, _^_, _≤_, min, suc-le-suc}
 use mathlib.Core.Path.{_≡_, refl, sym, ap, ap₂, _∙_}
 use mathlib.Core.Bool.{Bool, true, false}
 use mathlib.Core.List.{List, [], _∷_, _++_}
@@ -7,9 +7,10 @@ use native.Mathlib.Omega.{arith}
 use native.Mathlib.Nat.{zero-add, suc-add, add-assoc, le-refl, le-of-suc-le-suc, not-suc-le-zero, min-eq-left, min-eq-right}
 use lib.Dec.{leb}
 use borrow.Author.Tests.{leb-true, leb-false}
-use lib.ListN.{length, getD, set, take, length-set}
-use lib.Seq.{take-length, take-all, getD-set-same, getD-set-other}
-use Rattle.wire.specs.Bytes.{straight, bytes, writes, wrote}
+use lib.ListN.{length, getD, set, take, drop, length-set}
+use lib.Seq.{take-length, take-all, take-at, drop-at, getD-set-same, getD-set-other}
+use Rattle.wire.specs.Bytes.{littleEndian, fromLittleEndian, straight, bytes, writes, wrote}
+use Rattle.wire.proofs.Numbers.{length-littleEndian, number-read-back}
 
 -- ---- writes
 
@@ -58,6 +59,19 @@ bytes-same s s′ p p′ (suc n) h =
 
 pub bytes-at-same : (s : List ℕ) (p p′ : ℕ → ℕ) (n : ℕ) → ((j : ℕ) → j < n → p j ≡ p′ j) → bytes s p n ≡ bytes s p′ n
 bytes-at-same s p p′ n h = bytes-same s s p p′ n (λ j lt. ap (λ (k : ℕ). getD s k 0) (h j lt))
+
+-- a part of a run
+pub bytes-part : (s : List ℕ) (p : ℕ → ℕ) (n m k : ℕ) → m + k ≤ n → bytes s (λ j. p (m + j)) k ≡ take k (drop m (bytes s p n))
+bytes-part s p n m k h =
+    let r : ℕ = n - (m + k) in
+    let e : m + (k + r) ≡ n = omega arith in
+    let q : ℕ → ℕ = λ j. p (m + j) in
+    sym
+    (ap (λ (x : ℕ). take k (drop m (bytes s p x))) (sym e)
+    ∙ ap (λ (l : List ℕ). take k (drop m l)) (bytes-add s p m (k + r))
+    ∙ ap (take k) (drop-at (bytes s p m) (bytes s q (k + r)) m (length-bytes s p m))
+    ∙ ap (take k) (bytes-add s q k r)
+    ∙ take-at (bytes s q k) (bytes s (λ j. q (k + j)) r) k (length-bytes s q k))
 
 -- the first bytes of a list
 pub bytes-first : (s : List ℕ) (n : ℕ) → n ≤ length s → bytes s (straight 0) n ≡ take n s
@@ -117,6 +131,10 @@ unfolding wrote
 byte-kept s [] q h = refl
 byte-kept s (w ∷ ws) q h = byte-kept (set s (w .0) (w .1)) ws q (h .1) ∙ getD-set-other s (w .0) q (w .1) 0 (h .0)
 
+pub outside-append : (q : ℕ) (xs ys : List (ℕ × ℕ)) → Outside q xs → Outside q ys → Outside q (xs ++ ys)
+outside-append q [] ys h k = k
+outside-append q (x ∷ xs) ys h k = (h .0, outside-append q xs ys (h .1) k)
+
 pub outside-writes : (p : ℕ → ℕ) (bs : List ℕ) (q : ℕ) → ((j : ℕ) → j < length bs → q ≡ p j → ⊥) → Outside q (writes p bs)
 unfolding writes
 outside-writes p [] q h = tt
@@ -157,3 +175,12 @@ pub copied-on : (d s : List ℕ) (to from i k : ℕ) →
 copied-on d s to from i k =
     two-copies s d (straight to) (straight to) (straight (to + i)) (straight from) (straight from) (straight (from + i)) i k
     (λ j lt. refl) (λ j lt. add-assoc to i j) (λ j lt. refl) (λ j lt. add-assoc from i j)
+
+-- ---- a number that is written is read back
+
+pub number-written : (s : List ℕ) (p n v : ℕ) → p + n ≤ length s → v < 256 ^ n → fromLittleEndian (bytes (wrote s (writes (straight p) (littleEndian n v))) (straight p) n) ≡ v
+number-written s p n v fits small =
+    let l : length (littleEndian n v) ≡ n = length-littleEndian n v in
+    ap (λ (m : ℕ). fromLittleEndian (bytes (wrote s (writes (straight p) (littleEndian n v))) (straight p) m)) (sym l)
+    ∙ ap fromLittleEndian (bytes-read-back s (straight p) (littleEndian n v) (λ j lt. omega arith) (λ i j lt _ e. omega arith))
+    ∙ number-read-back n v small
