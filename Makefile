@@ -3,12 +3,12 @@
 CFLAGS = -std=c99 -O2 -Wall -Wextra -Wpedantic -Werror -Iinclude
 library = target/staticlib/libpanel.a
 sources = crates.txt $(shell find crates -name '*.rt' -o -name '*.antt')
-examples = layout
+examples = layout ring
 
-.PHONY: demo test library second examples-test clean
+.PHONY: demo test bench library second examples-test clean
 
-demo: target/examples/layout
-	target/examples/layout
+demo: $(examples:%=target/examples/%)
+	@set -e; for name in $(examples); do target/examples/$$name; echo; done
 
 test:
 	.ci/run
@@ -25,6 +25,14 @@ target/examples/%: examples/%.c include/petrelknob.h $(library)
 # What each example prints is held to the file beside it.
 examples-test: $(examples:%=target/examples/%)
 	set -e; for name in $(examples); do target/examples/$$name | diff examples/$$name.expected -; done
+
+# Nanoseconds of the proved code and of plain C, side by side.
+bench: target/bench/ring
+	target/bench/ring
+
+target/bench/ring: bench/ring.c bench/plain_ring.c bench/plain_ring.h include/petrelknob.h $(library)
+	@mkdir -p $(@D)
+	gcc $(CFLAGS) -Ibench -o $@ bench/ring.c bench/plain_ring.c $(library)
 
 second: $(library)
 	cargo build --release --offline --quiet --manifest-path second/Cargo.toml --target-dir target/second

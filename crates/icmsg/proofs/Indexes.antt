@@ -122,7 +122,7 @@ pub used-more : (d r w m : ℕ) → r < d → w < d → used d r w + m ≤ d - 1
 used-more d r w m h k l =
     let u : ℕ = used d r w in
     let e : (w + m) % d ≡ (r + (u + m)) % d =
-        ap (λ (x : ℕ). (x + m) % d) (sym (used-back d r w h k)) ∙ mod-add-mod (r + u) d m ∙ ap (λ (x : ℕ). x % d) (add-assoc r u m) in
+    ap (λ (x : ℕ). (x + m) % d) (sym (used-back d r w h k)) ∙ mod-add-mod (r + u) d m ∙ ap (λ (x : ℕ). x % d) (add-assoc r u m) in
     ap (used d r) e ∙ used-of d r (u + m) h (omega arith)
 
 pub used-bytes-stay-below : UsedBytes
@@ -132,5 +132,5 @@ used-bytes-stay-below s g w c k i h =
     let p = push-passed (length s) g r w (length c) (pushed [] g w c) k i h in
     let l : used (g .size) r w + packetLength (length c) ≤ g .size - 1 = omega (arith, p .room .fits) in
     let e : used (g .size) r i ≡ used (g .size) r w + packetLength (length c) =
-        ap (used (g .size) r) (push-index (length s) g r w [] c k i h) ∙ used-more (g .size) r w (packetLength (length c)) (p .room .below) (p .sound .below) l in
+    ap (used (g .size) r) (push-index (length s) g r w [] c k i h) ∙ used-more (g .size) r w (packetLength (length c)) (p .room .below) (p .sound .below) l in
     (e, omega arith)
