@@ -1,11 +1,11 @@
 -- Indexes stay in rule, and used bytes stay below the data length.
 use Prim.Native.Nat.{ℕ, zero, suc, _+_, _-_, _*_, _/_, _%_, _≤_, _<_}
-use mathlib.Core.Bool.{Bool, true, false}
+use mathlib.Core.Bool.{Bool, true, false, not}
 use mathlib.Core.Path.{_≡_, refl, sym, ap, _∙_}
 use mathlib.Core.List.{List, [], _∷_}
 use native.Mathlib.Nat.{mod-lt, mod-eq-of-lt, mod-add-mod, mod-mod-of-dvd, dvd-of-mod-eq-zero, add-assoc}
 use native.Mathlib.Omega.{arith}
-use lib.Dec.{ltb}
+use lib.Dec.{leb, ltb, eqb}
 use lib.ListN.{length}
 use borrow.Author.Tests.{lt-ltb, eq-eqb, ltb-true, ltb-false}
 use Rattle.wire.specs.Choice.{pick, passed}
@@ -15,10 +15,10 @@ use Rattle.wire.proofs.Trees.{answer-unless, answer-andThen}
 use Rattle.wire.proofs.Wrapped.{mod-past}
 use Rattle.icmsg.specs.Ring.{readIndexAt, indexAt, inRule, isSound, used, packetLength, behind, startContent}
 use Rattle.icmsg.specs.Rules.{Answer, accepted, refused, Outcome, refusal, roomNumber, pushNumber, pushed, pushRule, zeroIndexes, startRule, Found, found, nothing, lookRule, pullFound, pullRule}
-use Rattle.icmsg.specs.Laws.{Sound, HasRoom, IndexesInRule, UsedBytes}
+use Rattle.icmsg.specs.Laws.{Sound, HasRoom, IndexesInRule, RefusalNumbers, UsedBytes}
 use Rattle.icmsg.specs.declared.Ring.{Ring}
 use Rattle.icmsg.proofs.Checks.{sound-says, room-says, used-straight, used-past-end}
-use Rattle.icmsg.proofs.Pulls.{taken, take-flat}
+use Rattle.icmsg.proofs.Pulls.{partner, lengthAt, look-flat, taken, take-flat}
 
 -- ---- an accepted call has passed its checks
 
@@ -92,6 +92,34 @@ indexes-in-rule =
     by-push n g r w before c k i h =
         let p = push-passed n g r w (length c) (pushed before g w c) k i h in
         rw (push-index n g r w before c k i h) (behind-in-rule n g w (length c) (p .sound))
+
+-- ---- numbers
+
+push-number : (x : ℕ) (o : Outcome) (k i n : ℕ) → o .answer ≡ accepted k i → passed x o refusal .answer ≡ refused n → 1 ≤ n
+push-number zero o k i n e h = let z : _≡_ {A = ℕ} 0 1 = cc in absurd (omega arith)
+push-number (suc x) o k i n e h = let z : suc x ≡ n = cc in omega arith
+
+pull-number : (x a b c : Bool) (g : Ring) (r l : ℕ) (s : List ℕ) (k n : ℕ) →
+    pick x (answer (pullFound g r l (pick a (pick b (pick c (found k) (nothing 9)) (nothing 8)) (nothing 7))) s) (refusal 6) .answer ≡ refused n → 1 ≤ n
+pull-number true true true true g r l s k n h =
+    let t : taken g r l s k .answer ≡ refused n = rw (take-flat g r l s k) at h in
+    let z : _≡_ {A = ℕ} 0 1 = cc in
+    absurd (omega arith)
+pull-number true true true false g r l s k n h = let z : 9 ≡ n = cc in omega arith
+pull-number true true false c g r l s k n h = let z : 8 ≡ n = cc in omega arith
+pull-number true false b c g r l s k n h = let z : 7 ≡ n = cc in omega arith
+pull-number false a b c g r l s k n h = let z : 6 ≡ n = cc in omega arith
+
+pub refusal-numbers : RefusalNumbers
+unfolding pushRule startRule pullRule
+refusal-numbers =
+    record {
+      push = λ s g w c n h. push-number (pushNumber (length s) g (indexAt s (readIndexAt g)) w (length c)) (pushed [] g w c) (length c) (behind (g .size) w (length c)) n refl h;
+      start = λ m g n h. push-number (pushNumber m g 0 0 (length startContent)) (pushed (zeroIndexes g) g 0 startContent) (length startContent) (behind (g .size) 0 (length startContent)) n refl h;
+      pull = λ m g r b s n h.
+          pull-number (isSound m g r) (inRule (g .size) (partner g s)) (not (eqb (partner g s) r)) (leb (packetLength (lengthAt g r s)) (used (g .size) r (partner g s)))
+          g r b s (lengthAt g r s) n (rw (answer-unless, answer-andThen, look-flat g r s) at h);
+    }
 
 -- ---- used bytes: the write index w is that many bytes past the read index r
 

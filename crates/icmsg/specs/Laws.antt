@@ -7,7 +7,7 @@ use lib.ListN.{length, getD, take}
 use Rattle.wire.specs.Bytes.{straight, bytes, writes, wrote}
 use Rattle.wire.specs.Reads.{answer}
 use Rattle.icmsg.specs.Ring.{readIndexAt, dataAt, from, indexAt, inRule, used, packetLength, behind}
-use Rattle.icmsg.specs.Rules.{Outcome, accepted, pushRule, startRule, takenWrites, pullRule}
+use Rattle.icmsg.specs.Rules.{Outcome, refused, accepted, pushRule, startRule, takenWrites, pullRule}
 use Rattle.icmsg.specs.declared.Ring.{Ring}
 
 -- check 6
@@ -36,6 +36,12 @@ pub record IndexesInRule : Type 0 where
   pub push : (s : List ℕ) (g : Ring) (w : ℕ) (c : List ℕ) (k i : ℕ) → pushRule s g w c .answer ≡ accepted k i → inRule (g .size) i ≡ true
   pub start : (n : ℕ) (g : Ring) (k i : ℕ) → startRule n g .answer ≡ accepted k i → inRule (g .size) i ≡ true
   pub pull : (n : ℕ) (g : Ring) (r b : ℕ) (s : List ℕ) (k i : ℕ) → answer (pullRule n g r b) s .answer ≡ accepted k i → inRule (g .size) i ≡ true
+
+-- a refusal has a number
+pub record RefusalNumbers : Type 0 where
+  pub push : (s : List ℕ) (g : Ring) (w : ℕ) (c : List ℕ) (n : ℕ) → pushRule s g w c .answer ≡ refused n → 1 ≤ n
+  pub start : (m : ℕ) (g : Ring) (n : ℕ) → startRule m g .answer ≡ refused n → 1 ≤ n
+  pub pull : (m : ℕ) (g : Ring) (r b : ℕ) (s : List ℕ) (n : ℕ) → answer (pullRule m g r b) s .answer ≡ refused n → 1 ≤ n
 
 -- a push adds its packet to the used bytes, which stay below the data length
 abbrev pub UsedBytes : Type 0

@@ -1,0 +1,11 @@
+pub mod LeastBlocks
+pub mod Tables
+pub mod Arrivals
+pub mod RulesRead
+pub mod Effects
+pub mod Separate
+pub mod Addresses
+pub mod OpenEnds
+pub mod Promises
+pub mod ClosedEnds
+pub mod NewerPartner

@@ -1,0 +1,185 @@
+-- A rule asks for just the receive bytes that the papers say.
+use Prim.Native.Nat.{ℕ, zero, suc, _+_, min}
+use mathlib.Core.Bool.{Bool, true, false, not, _&&_}
+use mathlib.Core.Path.{_≡_, refl, ap, _∙_}
+use mathlib.Core.List.{List, [], _∷_, _++_, append-nil}
+use lib.Dec.{leb, ltb, eqb}
+use lib.ListN.{length, getD}
+use Rattle.wire.specs.Choice.{pick}
+use Rattle.wire.specs.Reads.{Reads, gives, answer, positionsRead, andThen}
+use Rattle.icmsg.specs.Rules.{Answer, refused, accepted, answerNumber, Outcome as RingOutcome, pullRule as ringPull}
+use Rattle.icmsg.specs.Reading.{past, pullReads, isOneOf}
+use Rattle.icmsg.specs.declared.Ring.{Ring}
+use Rattle.icmsg.proofs.PullReads.{pull-reads-what-01-lists}
+use Rattle.icbmsg.specs.Outcome.{Outcome, ringRefused, Rule, check, guard}
+use Rattle.icbmsg.specs.Tables.{Search, nowhere, foundAt, blocksFor}
+use Rattle.icbmsg.specs.Endpoints.{endpointAt, bindingAt, someEndpoint, someBinding, clashes, clashesStored, waitingFor, boundAt}
+use Rattle.icbmsg.specs.Ends.{whole, foundOr}
+use Rattle.icbmsg.specs.Rings.{ringOf, pullOutcome, pulled, pullRule}
+use Rattle.icbmsg.specs.Arrivals.{Decoded, empty, unknownKind, tooShort, dataSent, dataReleased, bindingSent, bindingReleased, decode, headerAt, decodedRule, arrivalRule, boundRule, boundSized, boundNamed, upToZero, fitsArea, areFree, boundTo, bindingStored, dataRule}
+use Rattle.icbmsg.specs.Calls.{Call, start, push, pull, reserve, room, send, drop, arrival, view, done, register, askRoom, askView, rule, lentReceive, step}
+use Rattle.icbmsg.specs.Reading.{sizeIn, contentAt, zeroEnded, arrivalReads, reading}
+use Rattle.icbmsg.specs.declared.End.{End}
+use Rattle.wire.proofs.Trees.{answer-unless, answer-readEach, answer-andThen, positionsRead-unless, positionsRead-andThen}
+
+positionsRead-guard : (b : Bool) (n : ℕ) (e : End) (t : Rule) (r : List ℕ) → positionsRead (guard b n e t) r ≡ pick b (positionsRead t r) []
+positionsRead-guard true n e t r = refl
+positionsRead-guard false n e t r = refl
+
+number-guard : (b : Bool) (n : ℕ) (e : End) (t : Rule) (r : List ℕ) → answer (guard b n e t) r .number ≡ pick b (answer t r .number) n
+number-guard true n e t r = refl
+number-guard false n e t r = refl
+
+pub answer-guard : (b : Bool) (n : ℕ) (e : End) (t : Rule) (r : List ℕ) → answer (guard b n e t) r ≡ check b n e (answer t r)
+answer-guard true n e t r = refl
+answer-guard false n e t r = refl
+
+-- pull: what the ring reads, past 6
+positionsRead-map : {A : Type 0} (t : Reads A) (f : A → Outcome) (r : List ℕ) → positionsRead (andThen t (λ a. gives (f a))) r ≡ positionsRead t r
+positionsRead-map t f r = positionsRead-andThen t (λ a. gives (f a)) r ∙ append-nil (positionsRead t r)
+
+number-pulled : (e : End) (ws bs : List (ℕ × ℕ)) (a : Answer) → pullOutcome e ws bs a .number ≡ answerNumber a
+number-pulled e ws bs (refused n) = refl
+number-pulled e ws bs (accepted k i) = refl
+
+pub pull-answer : (e : End) (n b : ℕ) (r : List ℕ) → answer (pullRule e n b) r ≡ pick (whole e (e .rx) n) (pulled e (answer (ringPull n (ringOf e (e .rx)) (e .read) b) r)) (ringRefused e 6)
+unfolding pullRule
+pull-answer e n b r = simp (answer-unless, answer-andThen)
+
+-- the tree, with the test that the slice is whole apart
+pull-asks : (e : End) (n b : ℕ) (r : List ℕ) → positionsRead (pullRule e n b) r ≡ pick (whole e (e .rx) n) (positionsRead (ringPull n (ringOf e (e .rx)) (e .read) b) r) []
+unfolding pullRule
+pull-asks e n b r = simp (positionsRead-unless, positionsRead-map)
+
+pull-cases : (e : End) (w : Bool) (g : Ring) (i b : ℕ) (r ps : List ℕ) (o : RingOutcome) → ps ≡ pullReads g i b r (answerNumber (o .answer)) →
+    pick w ps [] ≡ pullReads g i b r (pick w (pulled e o) (ringRefused e 6) .number)
+pull-cases e true g i b r ps o h = rw (number-pulled e (o .region) (o .buffer) (o .answer)) h
+pull-cases e false g i b r ps o h = refl
+
+pull-reads : (e : End) (r b : List ℕ) → positionsRead (rule e (pull r b)) r ≡ reading e (pull r b)
+unfolding rule lentReceive step reading
+pull-reads e r b =
+    rw (pull-answer e (length r) (length b) r, pull-asks e (length r) (length b) r)
+    (pull-cases e (whole e (e .rx) (length r)) (ringOf e (e .rx)) (e .read) (length b) r _ (answer (ringPull (length r) (ringOf e (e .rx)) (e .read) (length b)) r)
+    (pull-reads-what-01-lists (length r) (ringOf e (e .rx)) (e .read) (length b) r))
+
+-- kind 0
+data-cases : (a b c f u : Bool) (H : List ℕ) (n : ℕ) → n ≡ pick a (pick b (pick c (pick f (pick u 0 18) 17) 16) 15) 14 →
+    pick a (pick b (pick c H []) []) [] ≡ past (6 ∷ 14 ∷ 15 ∷ 16 ∷ []) n H
+data-cases true true true true true H n q = rw q
+data-cases true true true true false H n q = rw q
+data-cases true true true false u H n q = rw q
+data-cases true true false f u H n q = rw q
+data-cases true false c f u H n q = rw q
+data-cases false b c f u H n q = rw q
+
+pick-nil : (b : Bool) → pick {A = List ℕ} b [] [] ≡ []
+pick-nil true = refl
+pick-nil false = refl
+
+data-asks : (e : End) (a b : ℕ) (r : List ℕ) → positionsRead (dataRule e a b) r ≡ arrivalReads e r (answer (dataRule e a b) r .number) (dataSent a b)
+unfolding dataRule
+data-asks e a b r =
+    (simp (positionsRead-guard, pick-nil))
+    ∙ data-cases (leb a 0xFD) (someEndpoint (boundAt a) (e .endpoints)) (ltb b (e .rx .count)) (fitsArea e b (sizeIn e b r)) (areFree e b (sizeIn e b r)) (headerAt e b)
+    (answer (dataRule e a b) r .number) (simp (number-guard, answer-readEach))
+
+-- kind 2: its last numbers are none of the checks before the name
+record Late (n : ℕ) : Type 0 where
+  header : isOneOf n (6 ∷ 19 ∷ 14 ∷ 16 ∷ []) ≡ false
+  name : isOneOf n (6 ∷ 19 ∷ 14 ∷ 16 ∷ 17 ∷ 18 ∷ []) ≡ false
+
+check-late : (b : Bool) (n : ℕ) (e : End) (o : Outcome) → Late n → Late (o .number) → Late (check b n e o .number)
+check-late true n e o h k = k
+check-late false n e o h k = h
+
+place-late : (n : ℕ) (e : End) (f : ℕ → Outcome) (p : Search) → Late n → ((i : ℕ) → Late (f i .number)) → Late (foundOr n e f p .number)
+place-late n e f nowhere h k = h
+place-late n e f (foundAt i) h k = k i
+
+bound-late : (e : End) (a b n : ℕ) (name : List ℕ) (p : Search) → Late (boundTo e a b n name p .number)
+bound-late e a b n name nowhere =
+    place-late 22 e (bindingStored e a b n name) (bindingAt (λ x. not (x .stored)) (e .bindings)) (record { header = refl; name = refl }) (λ i. record { header = refl; name = refl })
+bound-late e a b n name (foundAt i) = record { header = refl; name = refl }
+
+named-late : (e : End) (a b n : ℕ) (name : List ℕ) → Late (boundNamed e a b n name .number)
+unfolding boundNamed
+named-late e a b n name =
+    check-late (leb 1 (length name)) 20 e _ (record { header = refl; name = refl })
+    (check-late (not (someEndpoint (clashes a name) (e .endpoints)) && not (someBinding (clashesStored a name) (e .bindings))) 21 e _ (record { header = refl; name = refl })
+    (bound-late e a b n name (endpointAt (waitingFor name) (e .endpoints))))
+
+positionsRead-pick : (b : Bool) (t u : Rule) (r : List ℕ) → positionsRead (pick b t u) r ≡ pick b (positionsRead t r) (positionsRead u r)
+positionsRead-pick true t u r = refl
+positionsRead-pick false t u r = refl
+
+pick-late : (b : Bool) (t u : Rule) (r : List ℕ) → Late (answer t r .number) → Late (answer u r .number) → Late (answer (pick b t u) r .number)
+pick-late true t u r h k = h
+pick-late false t u r h k = k
+
+name-asks : (e : End) (n p : ℕ) (f : List ℕ → Outcome) (r : List ℕ) → positionsRead (upToZero e n p (λ cs. gives (f cs))) r ≡ zeroEnded n p r
+name-asks e zero p f r = refl
+name-asks e (suc n) p f r =
+    ap (λ (l : List ℕ). p ∷ l)
+    (positionsRead-pick (eqb (getD r p 0) 0) (gives (f [])) (upToZero e n (suc p) (λ cs. gives (f (getD r p 0 ∷ cs)))) r
+    ∙ ap (λ (l : List ℕ). pick (eqb (getD r p 0) 0) [] l) (name-asks e n (suc p) (λ cs. f (getD r p 0 ∷ cs)) r))
+
+name-late : (e : End) (n p : ℕ) (f : List ℕ → Outcome) (r : List ℕ) → ((cs : List ℕ) → Late (f cs .number)) → Late (answer (upToZero e n p (λ cs. gives (f cs))) r .number)
+name-late e zero p f r h = record { header = refl; name = refl }
+name-late e (suc n) p f r h =
+    pick-late (eqb (getD r p 0) 0) (gives (f [])) (upToZero e n (suc p) (λ cs. gives (f (getD r p 0 ∷ cs)))) r (h [])
+    (name-late e n (suc p) (λ cs. f (getD r p 0 ∷ cs)) r (λ cs. h (getD r p 0 ∷ cs)))
+
+bound-cases : (i a c f u : Bool) (H N : List ℕ) (x n : ℕ) → Late x → n ≡ pick i (pick a (pick c (pick f (pick u x 18) 17) 16) 14) 19 →
+    pick i (pick a (pick c (H ++ pick f (pick u N []) []) []) []) [] ≡ past (6 ∷ 19 ∷ 14 ∷ 16 ∷ []) n H ++ past (6 ∷ 19 ∷ 14 ∷ 16 ∷ 17 ∷ 18 ∷ []) n N
+bound-cases true true true true true H N x n l q = rw (q, l .header, l .name)
+bound-cases true true true true false H N x n l q = rw q
+bound-cases true true true false u H N x n l q = rw q
+bound-cases true true false f u H N x n l q = rw q
+bound-cases true false c f u H N x n l q = rw q
+bound-cases false a c f u H N x n l q = rw q
+
+bound-asks : (e : End) (a b : ℕ) (r : List ℕ) → positionsRead (boundRule e a b) r ≡ arrivalReads e r (answer (boundRule e a b) r .number) (bindingSent a b)
+unfolding boundRule boundSized
+bound-asks e a b r =
+    let k : ℕ = sizeIn e b r in
+    let f : List ℕ → Outcome = boundNamed e a b (blocksFor (e .rx) k) in
+    (simp (positionsRead-guard, name-asks))
+    ∙ bound-cases (not (e .initiator)) (leb a 0xFD) (ltb b (e .rx .count)) (fitsArea e b k) (areFree e b k) (headerAt e b) (zeroEnded (min k 32) (contentAt e b) r)
+    (answer (upToZero e (min k 32) (contentAt e b) (λ cs. gives (f cs))) r .number)
+    (answer (boundRule e a b) r .number)
+    (name-late e (min k 32) (contentAt e b) f r (named-late e a b (blocksFor (e .rx) k)))
+    (simp (number-guard, answer-readEach))
+
+decoded-reads : (e : End) (w : Bool) (l : Decoded) (r : List ℕ) → positionsRead (guard w 6 e (decodedRule e l)) r ≡ arrivalReads e r (answer (guard w 6 e (decodedRule e l)) r .number) l
+decoded-reads e true empty r = refl
+decoded-reads e true unknownKind r = refl
+decoded-reads e true tooShort r = refl
+decoded-reads e true (dataSent a b) r = data-asks e a b r
+decoded-reads e true (dataReleased b) r = refl
+decoded-reads e true (bindingSent a b) r = bound-asks e a b r
+decoded-reads e true (bindingReleased a b) r = refl
+decoded-reads e false empty r = refl
+decoded-reads e false unknownKind r = refl
+decoded-reads e false tooShort r = refl
+decoded-reads e false (dataSent a b) r = refl
+decoded-reads e false (dataReleased b) r = refl
+decoded-reads e false (bindingSent a b) r = refl
+decoded-reads e false (bindingReleased a b) r = refl
+
+-- every rule asks for what the papers say, in this order, and for nothing else
+pub rules-read : (e : End) (c : Call) → positionsRead (rule e c) (lentReceive c) ≡ reading e c
+unfolding rule lentReceive step reading arrivalRule
+rules-read e (start tx) = refl
+rules-read e (push tx c) = refl
+rules-read e (pull r b) = pull-reads e r b
+rules-read e (reserve k) = refl
+rules-read e (room tx s) = refl
+rules-read e (send tx s a k) = refl
+rules-read e (drop s) = refl
+rules-read e (arrival r m) = decoded-reads e (whole e (e .rx) (length r)) (decode m) r
+rules-read e (view rx s) = refl
+rules-read e (done s) = refl
+rules-read e (register tx n) = refl
+rules-read e (askRoom s n) = refl
+rules-read e (askView s n) = refl

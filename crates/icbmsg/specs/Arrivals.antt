@@ -1,0 +1,139 @@
+-- The rules of arriving control messages (01, "Arriving control messages" and "Binding").
+use Prim.Native.Nat.{ℕ, zero, suc, _+_, _-_, _*_, min}
+use mathlib.Core.Bool.{Bool, true, not, _&&_}
+use mathlib.Core.List.{List, [], _∷_}
+use lib.Dec.{leb, ltb, eqb}
+use lib.ListN.{length, getD, set}
+use Rattle.wire.specs.Choice.{pick}
+use Rattle.wire.specs.Bytes.{fromLittleEndian, straight, positions}
+use Rattle.wire.specs.Reads.{gives, reads, readEach}
+use Rattle.icbmsg.specs.Outcome.{Outcome, refused, accepted, Rule, check, guard}
+use Rattle.icbmsg.specs.Tables.{Search, nowhere, foundAt, entry, starts, allFree, freed, taken, blocksFor, blockAt}
+use Rattle.icbmsg.specs.Endpoints.{paddedName, noEndpoint, isWaiting, at, boundAt, waitingFor, clashes, clashesStored, endpointAt, bindingAt, someEndpoint, someBinding}
+use Rattle.icbmsg.specs.Ends.{whole, foundOr, changed, withSent, withHeld}
+use Rattle.icbmsg.specs.Registering.{become}
+use Rattle.icbmsg.specs.declared.Use.the-variants.{SentData, SentBinding, ReceivedData, StoredBinding}
+use Rattle.icbmsg.specs.declared.Stage.the-variants.{Bound}
+use Rattle.icbmsg.specs.declared.Endpoint.{Endpoint}
+use Rattle.icbmsg.specs.declared.End.{End}
+
+-- what the first three bytes say
+pub data Decoded : Type 0 where
+  empty unknownKind tooShort : Decoded
+  dataSent : ℕ → ℕ → Decoded
+  dataReleased : ℕ → Decoded
+  bindingSent : ℕ → ℕ → Decoded
+  bindingReleased : ℕ → ℕ → Decoded
+
+abbrev pub kind : ℕ → ℕ → ℕ → Decoded
+kind k a b = pick (eqb k 0) (dataSent a b) (pick (eqb k 1) (dataReleased b) (pick (eqb k 2) (bindingSent a b) (bindingReleased a b)))
+
+abbrev pub decode : List ℕ → Decoded
+decode [] = empty
+decode (k ∷ []) = pick (ltb 3 k) unknownKind tooShort
+decode (k ∷ a ∷ []) = pick (ltb 3 k) unknownKind tooShort
+decode (k ∷ a ∷ b ∷ m) = pick (ltb 3 k) unknownKind (kind k a b)
+
+abbrev pub headerAt : End → ℕ → List ℕ
+headerAt e b = positions (straight (blockAt (e .rx) b)) 4
+
+-- 17: K + 4 ends with the last block. 18: its blocks are free
+abbrev pub fitsArea : End → ℕ → ℕ → Bool
+fitsArea e b k = leb (k + 4) ((e .rx .count - b) * e .rx .size)
+
+abbrev pub areFree : End → ℕ → ℕ → Bool
+areFree e b k = allFree (e .held) b (blocksFor (e .rx) k)
+
+unfoldable pub dataRule : End → ℕ → ℕ → Rule
+dataRule e a b =
+    guard (leb a 0xFD) 14 e
+    (guard (someEndpoint (boundAt a) (e .endpoints)) 15 e
+    (guard (ltb b (e .rx .count)) 16 e
+    (readEach (headerAt e b) (λ h. let k : ℕ = fromLittleEndian h in
+    guard (fitsArea e b k) 17 e
+    (guard (areFree e b k) 18 e
+    (gives (record {
+      number = 0;
+      values = a ∷ b ∷ k ∷ [];
+      begin = blockAt (e .rx) b + 4;
+      size = k;
+      tx = [];
+      rx = [];
+      buffer = [];
+      next = withHeld e (taken (e .held) ReceivedData b (blocksFor (e .rx) k) a k);
+    })))))))
+
+unfoldable pub releaseOf : End → ℕ → Outcome
+releaseOf e b =
+    check (ltb b (e .tx .count)) 16 e
+    (check (starts SentData (e .tx) (e .sent) b) 25 e
+    ((accepted (withSent e (freed (e .sent) b (entry (e .sent) b .count))) [])))
+
+-- the waiting endpoint with the address is bound
+abbrev pub boundNow : List Endpoint → ℕ → Search → List Endpoint
+boundNow ps a nowhere = ps
+boundNow ps a (foundAt i) = set ps i (record { stage = Bound; address = a; name = (getD ps i noEndpoint) .name })
+
+abbrev pub waitingAt : ℕ → Endpoint → Bool
+waitingAt a p = at isWaiting p && eqb (p .address) a
+
+unfoldable pub releasedBoundOf : End → ℕ → ℕ → Outcome
+releasedBoundOf e a b =
+    check (leb a 0xFD) 14 e
+    (check (ltb b (e .tx .count)) 16 e
+    (check (starts SentBinding (e .tx) (e .sent) b && eqb (entry (e .sent) b .address) a) 25 e
+    ((accepted
+    (changed e (e .write) (e .read) (freed (e .sent) b (entry (e .sent) b .count)) (e .held)
+    (boundNow (e .endpoints) a (endpointAt (waitingAt a) (e .endpoints))) (e .bindings))
+    []))))
+
+-- a binding of n blocks is stored
+abbrev pub bindingStored : End → ℕ → ℕ → ℕ → List ℕ → ℕ → Outcome
+bindingStored e a b n name j =
+    accepted
+    (changed e (e .write) (e .read) (e .sent) (taken (e .held) StoredBinding b n a 0) (e .endpoints)
+    (set (e .bindings) j (record { stored = true; address = a; start = b; count = n; name = paddedName name })))
+    []
+
+abbrev pub boundTo : End → ℕ → ℕ → ℕ → List ℕ → Search → Outcome
+boundTo e a b n name nowhere = foundOr 22 e (bindingStored e a b n name) (bindingAt (λ x. not (x .stored)) (e .bindings))
+boundTo e a b n name (foundAt i) =
+    (accepted (changed e (e .write) (e .read) (e .sent) (e .held) (become e i Bound a name) (e .bindings)) (3 ∷ a ∷ b ∷ []))
+
+-- with its name
+unfoldable pub boundNamed : End → ℕ → ℕ → ℕ → List ℕ → Outcome
+boundNamed e a b n name =
+    check (leb 1 (length name)) 20 e
+    (check (not (someEndpoint (clashes a name) (e .endpoints)) && not (someBinding (clashesStored a name) (e .bindings))) 21 e
+    (boundTo e a b n name (endpointAt (waitingFor name) (e .endpoints))))
+
+-- the bytes from p on, up to the first zero of at most n bytes; 20 where none is zero
+abbrev pub upToZero : End → ℕ → ℕ → (List ℕ → Rule) → Rule
+upToZero e zero p k = gives (refused e 20)
+upToZero e (suc n) p k = reads p (λ c. pick (eqb c 0) (k []) (upToZero e n (suc p) (λ cs. k (c ∷ cs))))
+
+-- with its K
+unfoldable pub boundSized : End → ℕ → ℕ → ℕ → Rule
+boundSized e a b k =
+    guard (fitsArea e b k) 17 e
+    (guard (areFree e b k) 18 e
+    (upToZero e (min k 32) (blockAt (e .rx) b + 4) (λ name. gives (boundNamed e a b (blocksFor (e .rx) k) name))))
+
+unfoldable pub boundRule : End → ℕ → ℕ → Rule
+boundRule e a b =
+    guard (not (e .initiator)) 19 e
+    (guard (leb a 0xFD) 14 e
+    (guard (ltb b (e .rx .count)) 16 e
+    (readEach (headerAt e b) (λ h. boundSized e a b (fromLittleEndian h)))))
+
+abbrev pub decodedRule : End → Decoded → Rule
+decodedRule e empty = gives (refused e 12)
+decodedRule e unknownKind = gives (refused e 13)
+decodedRule e tooShort = gives (refused e 12)
+decodedRule e (dataSent a b) = dataRule e a b
+decodedRule e (dataReleased b) = gives (releaseOf e b)
+decodedRule e (bindingSent a b) = boundRule e a b
+decodedRule e (bindingReleased a b) = gives (releasedBoundOf e a b)
+
+unfoldable pub arrivalRule : End → ℕ → List ℕ → Rule
+arrivalRule e n m = guard (whole e (e .rx) n) 6 e (decodedRule e (decode m))

@@ -1,0 +1,14 @@
+pub mod Outcome
+pub mod Tables
+pub mod Endpoints
+pub mod Ends
+pub mod Opening
+pub mod Rings
+pub mod Messages
+pub mod Registering
+pub mod Arrivals
+pub mod Calls
+pub mod Reading
+pub mod WellFormed
+pub mod Theorems
+pub mod NewerPartner

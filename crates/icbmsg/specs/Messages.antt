@@ -1,0 +1,66 @@
+-- The rules of the calls on messages: reserve, room, send, drop, view, done, and the two questions (01, "Blocks and framing").
+use Prim.Native.Nat.{ℕ, _+_, _-_, _*_}
+use mathlib.Core.List.{List, [], _∷_}
+use lib.Dec.{leb}
+use Rattle.wire.specs.Bytes.{littleEndian, straight, writes}
+use Rattle.icbmsg.specs.Outcome.{Outcome, accepted, placed, check}
+use Rattle.icbmsg.specs.Tables.{entry, starts, startsData, freed, taken, blocksFor, blockAt, freeRun}
+use Rattle.icbmsg.specs.Endpoints.{boundAt, someEndpoint}
+use Rattle.icbmsg.specs.Ends.{isOpen, whole, foundOr, withSent, withHeld}
+use Rattle.icbmsg.specs.declared.Use.the-variants.{Reserved, SentData}
+use Rattle.icbmsg.specs.declared.End.{End}
+
+unfoldable pub reserveOf : End → ℕ → Outcome
+reserveOf e k =
+    check (isOpen e) 6 e
+    (let n : ℕ = blocksFor (e .tx) k in
+    check (leb n (e .tx .count)) 23 e
+    (foundOr 24 e (λ s. (accepted (withSent e (taken (e .sent) Reserved s n 0 0)) (s ∷ n ∷ []))) (freeRun (e .tx) (e .sent) n)))
+
+unfoldable pub roomOf : End → ℕ → ℕ → Outcome
+roomOf e n s =
+    check (whole e (e .tx) n) 6 e
+    (check (starts Reserved (e .tx) (e .sent) s) 25 e
+    ((placed e (blockAt (e .tx) s + 4) (entry (e .sent) s .count * e .tx .size - 4))))
+
+unfoldable pub sendOf : End → ℕ → ℕ → ℕ → ℕ → Outcome
+sendOf e n s a k =
+    check (whole e (e .tx) n) 6 e
+    (check (starts Reserved (e .tx) (e .sent) s) 25 e
+    (check (someEndpoint (boundAt a) (e .endpoints)) 15 e
+    (check (leb (k + 4) (entry (e .sent) s .count * e .tx .size)) 23 e
+    (record {
+      number = 0;
+      values = 0 ∷ a ∷ s ∷ [];
+      begin = 0;
+      size = 0;
+      tx = writes (straight (blockAt (e .tx) s)) (littleEndian 4 k);
+      rx = [];
+      buffer = [];
+      next = withSent e (taken (freed (e .sent) s (entry (e .sent) s .count)) SentData s (blocksFor (e .tx) k) a k);
+    }))))
+
+unfoldable pub dropOf : End → ℕ → Outcome
+dropOf e s =
+    check (isOpen e) 6 e
+    (check (starts Reserved (e .tx) (e .sent) s) 25 e
+    ((accepted (withSent e (freed (e .sent) s (entry (e .sent) s .count))) [])))
+
+unfoldable pub viewOf : End → ℕ → ℕ → Outcome
+viewOf e n s =
+    check (whole e (e .rx) n) 6 e
+    (check (startsData (e .rx) (e .held) s) 25 e
+    ((placed e (blockAt (e .rx) s + 4) (entry (e .held) s .length))))
+
+unfoldable pub doneOf : End → ℕ → Outcome
+doneOf e s =
+    check (isOpen e) 6 e
+    (check (startsData (e .rx) (e .held) s) 25 e
+    ((accepted (withHeld e (freed (e .held) s (entry (e .held) s .count))) (1 ∷ 0 ∷ s ∷ []))))
+
+-- the questions on a start and a slice's length
+unfoldable pub roomQuestion : End → ℕ → ℕ → Outcome
+roomQuestion e s n = check (whole e (e .tx) n) 6 e (check (starts Reserved (e .tx) (e .sent) s) 25 e ((accepted e [])))
+
+unfoldable pub viewQuestion : End → ℕ → ℕ → Outcome
+viewQuestion e s n = check (whole e (e .rx) n) 6 e (check (startsData (e .rx) (e .held) s) 25 e ((accepted e [])))

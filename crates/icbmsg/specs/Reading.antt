@@ -1,0 +1,52 @@
+-- The receive bytes that each call reads, as 01 lists them, by what the call answers.
+use Prim.Native.Nat.{ℕ, zero, suc, _+_, min}
+use mathlib.Core.List.{List, [], _∷_, _++_}
+use lib.Dec.{eqb}
+use lib.ListN.{length, getD}
+use Rattle.wire.specs.Choice.{pick}
+use Rattle.wire.specs.Bytes.{fromLittleEndian, bytesAt}
+use Rattle.icmsg.specs.Reading.{past, pullReads}
+use Rattle.icbmsg.specs.Tables.{blockAt}
+use Rattle.icbmsg.specs.Rings.{ringOf}
+use Rattle.icbmsg.specs.Arrivals.{Decoded, empty, unknownKind, tooShort, dataSent, dataReleased, bindingSent, bindingReleased, decode, headerAt}
+use Rattle.icbmsg.specs.Calls.{Call, start, push, pull, reserve, room, send, drop, arrival, view, done, register, askRoom, askView, step}
+use Rattle.icbmsg.specs.declared.End.{End}
+
+-- K of the message in receive block b, and where its content begins
+abbrev pub sizeIn : End → ℕ → List ℕ → ℕ
+sizeIn e b r = fromLittleEndian (bytesAt r (headerAt e b))
+
+abbrev pub contentAt : End → ℕ → ℕ
+contentAt e b = blockAt (e .rx) b + 4
+
+-- at most n places from p on, as far as the first zero byte
+abbrev pub zeroEnded : ℕ → ℕ → List ℕ → List ℕ
+zeroEnded zero p r = []
+zeroEnded (suc n) p r = p ∷ pick (eqb (getD r p 0) 0) [] (zeroEnded n (suc p) r)
+
+-- an arrival of kind 0 or 2, past 16 the four header bytes, and of kind 2, past 18, the name as far as its first zero
+abbrev pub arrivalReads : End → List ℕ → ℕ → Decoded → List ℕ
+arrivalReads e r n empty = []
+arrivalReads e r n unknownKind = []
+arrivalReads e r n tooShort = []
+arrivalReads e r n (dataSent a b) = past (6 ∷ 14 ∷ 15 ∷ 16 ∷ []) n (headerAt e b)
+arrivalReads e r n (dataReleased b) = []
+arrivalReads e r n (bindingSent a b) =
+    past (6 ∷ 19 ∷ 14 ∷ 16 ∷ []) n (headerAt e b)
+    ++ past (6 ∷ 19 ∷ 14 ∷ 16 ∷ 17 ∷ 18 ∷ []) n (zeroEnded (min (sizeIn e b r) 32) (contentAt e b) r)
+arrivalReads e r n (bindingReleased a b) = []
+
+unfoldable pub reading : End → Call → List ℕ
+reading e (start tx) = []
+reading e (push tx c) = []
+reading e (pull r b) = pullReads (ringOf e (e .rx)) (e .read) (length b) r (step e (pull r b) .number)
+reading e (reserve k) = []
+reading e (room tx s) = []
+reading e (send tx s a k) = []
+reading e (drop s) = []
+reading e (arrival r m) = arrivalReads e r (step e (arrival r m) .number) (decode m)
+reading e (view rx s) = []
+reading e (done s) = []
+reading e (register tx n) = []
+reading e (askRoom s n) = []
+reading e (askView s n) = []

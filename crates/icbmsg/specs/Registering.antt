@@ -1,0 +1,65 @@
+-- The rule of register (01, "Binding").
+use Prim.Native.Nat.{ℕ, _+_}
+use mathlib.Core.Bool.{not}
+use mathlib.Core.List.{List, [], _∷_, _++_}
+use lib.Dec.{leb}
+use lib.ListN.{length, getD, set}
+use Rattle.wire.specs.Choice.{pick}
+use Rattle.wire.specs.Bytes.{littleEndian, straight, writes}
+use Rattle.icbmsg.specs.Outcome.{Outcome, accepted, check}
+use Rattle.icbmsg.specs.Tables.{Search, nowhere, foundAt, freed, taken, blocksFor, blockAt, freeRun}
+use Rattle.icbmsg.specs.Endpoints.{paddedName, noBinding, isUnused, at, registered, holds, endpointAt, bindingAt, someEndpoint, unusedFrom, goodName}
+use Rattle.icbmsg.specs.Ends.{whole, foundOr, changed}
+use Rattle.icbmsg.specs.declared.Use.the-variants.{SentBinding}
+use Rattle.icbmsg.specs.declared.Stage.{Stage}
+use Rattle.icbmsg.specs.declared.Stage.the-variants.{Waiting, Bound}
+use Rattle.icbmsg.specs.declared.Endpoint.{Endpoint}
+use Rattle.icbmsg.specs.declared.Binding.{Binding}
+use Rattle.icbmsg.specs.declared.End.{End}
+
+-- endpoint i becomes this
+abbrev pub become : End → ℕ → Stage → ℕ → List ℕ → List Endpoint
+become e i s a n = set (e .endpoints) i (record { stage = s; address = a; name = paddedName n })
+
+-- the initiator's: run s of b blocks
+abbrev pub announcement : End → List ℕ → ℕ → ℕ → ℕ → ℕ → Outcome
+announcement e n i a b s =
+    record {
+      number = 0;
+      values = 2 ∷ a ∷ s ∷ [];
+      begin = 0;
+      size = 0;
+      tx = writes (straight (blockAt (e .tx) s)) (littleEndian 4 (length n + 1) ++ n ++ (0 ∷ []));
+      rx = [];
+      buffer = [];
+      next = changed e (e .write) (e .read) (taken (e .sent) SentBinding s b a (length n + 1)) (e .held) (become e i Waiting a n) (e .bindings);
+    }
+
+-- the follower's, where stored binding b (number j) has the name
+abbrev pub boundToStored : End → List ℕ → ℕ → ℕ → Binding → Outcome
+boundToStored e n i j b =
+    accepted
+    (changed e (e .write) (e .read) (e .sent) (freed (e .held) (b .start) (b .count)) (become e i Bound (b .address) n) (set (e .bindings) j noBinding))
+    (3 ∷ b .address ∷ b .start ∷ [])
+
+abbrev pub waits : End → List ℕ → ℕ → Outcome
+waits e n i = accepted (changed e (e .write) (e .read) (e .sent) (e .held) (become e i Waiting 0 n) (e .bindings)) []
+
+abbrev pub followed : End → List ℕ → ℕ → Search → Outcome
+followed e n i nowhere = (waits e n i)
+followed e n i (foundAt j) = (boundToStored e n i j (getD (e .bindings) j noBinding))
+
+unfoldable pub initiates : End → List ℕ → ℕ → Outcome
+initiates e n i =
+    check (leb (blocksFor (e .tx) (length n + 1)) (e .tx .count)) 23 e
+    (foundOr 24 e (λ s. (announcement e n i (unusedFrom 8 0 (e .endpoints)) (blocksFor (e .tx) (length n + 1)) s))
+    (freeRun (e .tx) (e .sent) (blocksFor (e .tx) (length n + 1))))
+
+unfoldable pub registerOf : End → ℕ → List ℕ → Outcome
+registerOf e l n =
+    check (whole e (e .tx) l) 6 e
+    (check (goodName n) 20 e
+    (check (not (someEndpoint (registered n) (e .endpoints))) 21 e
+    (foundOr 22 e
+    (λ i. pick (e .initiator) (initiates e n i) (followed e n i (bindingAt (holds (e .rx) n) (e .bindings))))
+    (endpointAt (at isUnused) (e .endpoints)))))

@@ -1,0 +1,42 @@
+-- The rules of the calls on the rings: start, push and pull.
+use Prim.Native.Nat.{ℕ}
+use mathlib.Core.List.{List, [], _∷_}
+use lib.ListN.{length}
+use Rattle.wire.specs.Choice.{pick}
+use Rattle.wire.specs.Reads.{gives, unless, andThen}
+use Rattle.icmsg.specs.Rules.{Outcome as RingOutcome, Answer, refused as ringNo, accepted as ringYes, pushRule as ringPush, startRule as ringStart, pullRule as ringPull}
+use Rattle.icmsg.specs.declared.Ring.{Ring}
+use Rattle.icbmsg.specs.Outcome.{Outcome, ringRefused, Rule}
+use Rattle.icbmsg.specs.Ends.{whole, withWrite, withRead}
+use Rattle.icbmsg.specs.declared.Region.{Region}
+use Rattle.icbmsg.specs.declared.End.{End}
+
+-- the ring of a region
+abbrev pub ringOf : End → Region → Ring
+ringOf e g = record { begin = g .base; align = e .align; size = g .ring }
+
+-- what the ring answered on the transmit side: its writes ws, and the end's own write index moved on
+abbrev pub pushOutcome : End → List (ℕ × ℕ) → Answer → Outcome
+pushOutcome e ws (ringNo n) = ringRefused e n
+pushOutcome e ws (ringYes k i) = record { number = 0; values = k ∷ []; begin = 0; size = 0; tx = ws; rx = []; buffer = []; next = withWrite e i }
+
+-- and on the receive side
+abbrev pub pullOutcome : End → List (ℕ × ℕ) → List (ℕ × ℕ) → Answer → Outcome
+pullOutcome e ws bs (ringNo n) = ringRefused e n
+pullOutcome e ws bs (ringYes k i) = record { number = 0; values = k ∷ []; begin = 0; size = 0; tx = []; rx = ws; buffer = bs; next = withRead e i }
+
+abbrev pub pushed : End → RingOutcome → Outcome
+pushed e o = pushOutcome e (o .region) (o .answer)
+
+abbrev pub pulled : End → RingOutcome → Outcome
+pulled e o = pullOutcome e (o .region) (o .buffer) (o .answer)
+
+unfoldable pub pushOf : End → List ℕ → List ℕ → Outcome
+pushOf e tx c = pick (whole e (e .tx) (length tx)) (pushed e (ringPush tx (ringOf e (e .tx)) (e .write) c)) (ringRefused e 6)
+
+unfoldable pub startOf : End → ℕ → Outcome
+startOf e n = pick (whole e (e .tx) n) (pushed e (ringStart n (ringOf e (e .tx)))) (ringRefused e 6)
+
+-- n bytes lent of the receive region, a buffer of b bytes
+unfoldable pub pullRule : End → ℕ → ℕ → Rule
+pullRule e n b = unless (whole e (e .rx) n) (ringRefused e 6) (andThen (ringPull n (ringOf e (e .rx)) (e .read) b) (λ o. gives (pulled e o)))

@@ -1,0 +1,190 @@
+-- What holds of every end, and of every end reached from an opening by any calls with any bytes lent. Proofs: proofs/.
+use Prim.Native.Nat.{ℕ, _+_, _*_, _≤_, _<_}
+use mathlib.Core.Bool.{Bool, true, false, not, _&&_}
+use mathlib.Core.Path.{_≡_}
+use mathlib.Core.Logic.{_≢_, _↔_}
+use mathlib.Core.List.{List, [], _∷_}
+use lib.Dec.{eqb}
+use Rattle.wire.specs.Bytes.{same}
+use Rattle.icbmsg.specs.Outcome.{Outcome, refusedWith, refused, accepted}
+use Rattle.icbmsg.specs.Tables.{entry, starts, startsData, taken, blocksFor, inUse}
+use Rattle.icbmsg.specs.Endpoints.{at, isUnused, someEndpoint, unusedFrom, paddedName, holds}
+use Rattle.icbmsg.specs.Ends.{isOpen, withSent}
+use Rattle.icbmsg.specs.Opening.{Opening, opening}
+use Rattle.icbmsg.specs.Arrivals.{Decoded, empty, unknownKind, tooShort, dataSent, dataReleased, bindingSent, bindingReleased, decode}
+use Rattle.icbmsg.specs.Calls.{Call, start, push, pull, reserve, room, send, drop, arrival, view, done, register, askRoom, askView, step}
+use Rattle.icbmsg.specs.WellFormed.{Live, InRun, IsFree, bindingOf, Separate}
+use lib.ListN.{length}
+use Rattle.icbmsg.specs.declared.Use.the-variants.{Free, Reserved, SentData, SentBinding, ReceivedData}
+use Rattle.icbmsg.specs.declared.Entry.{Entry}
+use Rattle.icbmsg.specs.declared.Endpoint.{Endpoint}
+use Rattle.icbmsg.specs.declared.Region.{Region}
+use Rattle.icbmsg.specs.declared.End.{End}
+
+-- ---- ends that are reached
+
+-- what an opening gives is reached, and what a call leaves of an end that is
+pub data Reached : End → Type 0 where
+  opened : (o : Opening) → Reached (opening o .end)
+  called : {e : End} (c : Call) → Reached e → Reached (step e c .next)
+
+-- the end that calls leave
+abbrev pub left : End → List Call → End
+left e [] = e
+left e (c ∷ cs) = left (step e c .next) cs
+
+-- what a call hands out beside its number: the length of a ring call, a part of a region, or neither
+pub data Part : Type 0 where
+  no-part length-part room-part view-part : Part
+
+abbrev pub refusedValues : Part → List ℕ
+refusedValues no-part = []
+refusedValues length-part = 0 ∷ []
+refusedValues room-part = []
+refusedValues view-part = []
+
+-- it lies inside the region's blocks
+abbrev pub InBlocks : Region → Outcome → Type 0
+InBlocks g o = (g .blocks ≤ o .begin) × (o .begin + o .size ≤ g .blocks + g .count * g .size)
+
+abbrev pub PartIn : End → Part → Outcome → Type 0
+PartIn e no-part o = (o .begin ≡ 0) × (o .size ≡ 0)
+PartIn e length-part o = (o .begin ≡ 0) × (o .size ≡ 0)
+PartIn e room-part o = InBlocks (e .tx) o
+PartIn e view-part o = InBlocks (e .rx) o
+
+abbrev pub partOfDecoded : Decoded → Part
+partOfDecoded empty = no-part
+partOfDecoded unknownKind = no-part
+partOfDecoded tooShort = no-part
+partOfDecoded (dataSent a b) = view-part
+partOfDecoded (dataReleased b) = no-part
+partOfDecoded (bindingSent a b) = no-part
+partOfDecoded (bindingReleased a b) = no-part
+
+unfoldable pub partOf : Call → Part
+partOf (start tx) = length-part
+partOf (push tx c) = length-part
+partOf (pull rx b) = length-part
+partOf (reserve k) = no-part
+partOf (room tx s) = room-part
+partOf (send tx s a k) = no-part
+partOf (drop s) = no-part
+partOf (arrival rx m) = partOfDecoded (decode m)
+partOf (view rx s) = view-part
+partOf (done s) = no-part
+partOf (register tx n) = no-part
+partOf (askRoom s n) = no-part
+partOf (askView s n) = no-part
+
+-- ---- demand 1: refusals
+
+-- An outcome whose number is not 0 is that number and nothing else: no place, no write, the end as it was, and no value but a ring
+-- call's length 0.
+abbrev pub Refusals : Type 0
+Refusals = (e : End) (c : Call) → step e c .number ≢ 0 → step e c ≡ refusedWith (refusedValues (partOf c)) e (step e c .number)
+
+-- ---- open ends
+
+-- what no call changes
+pub record SameNumbers (e e′ : End) : Type 0 where
+  pub initiator : e′ .initiator ≡ e .initiator
+  pub align : e′ .align ≡ e .align
+  pub tx : e′ .tx ≡ e .tx
+  pub rx : e′ .rx ≡ e .rx
+
+abbrev pub NumbersStay : Type 0
+NumbersStay = (e : End) (c : Call) → SameNumbers e (step e c .next)
+
+-- every call keeps an end open, or closed
+abbrev pub OpenStays : Type 0
+OpenStays = (e : End) (c : Call) → isOpen (step e c .next) ≡ isOpen e
+
+-- a closed end answers 6 to every call
+abbrev pub ClosedSix : Type 0
+ClosedSix = (e : End) (c : Call) → isOpen e ≡ false → step e c ≡ refusedWith (refusedValues (partOf c)) e 6
+
+-- after any calls an end is open exactly if its opening was accepted
+abbrev pub OpenExactly : Type 0
+OpenExactly = (o : Opening) (cs : List Call) → isOpen (left (opening o .end) cs) ≡ eqb (opening o .number) 0
+
+-- ---- demand 1: parts lie inside
+
+-- The part that an accepted call hands out lies inside its region's blocks: a room's in the transmit region, a view's and a
+-- delivered message's in the receive region. Every other call hands out none.
+abbrev pub PartsInside : Type 0
+PartsInside = (e : End) (c : Call) → step e c .number ≡ 0 → PartIn e (partOf c) (step e c)
+
+-- ---- demand 1: live runs share no block
+
+-- both tables are in order
+abbrev pub Separated : Type 0
+Separated = (e : End) → Reached e → Separate e
+
+-- no block is in two live runs of one table
+abbrev pub Disjoint : List Entry → Type 0
+Disjoint t = (s s′ i : ℕ) → Live t s → Live t s′ → s ≢ s′ → InRun t s i → InRun t s′ i → ⊥
+
+abbrev pub RunsDisjoint : Type 0
+RunsDisjoint = (e : End) → Reached e → Disjoint (e .sent) × Disjoint (e .held)
+
+-- and a block that is not free is in one
+abbrev pub Covered : List Entry → Type 0
+Covered t = (i : ℕ) → (entry t i .usage ≡ Free → ⊥) → (s : ℕ) × Live t s × InRun t s i
+
+abbrev pub BlocksCovered : Type 0
+BlocksCovered = (e : End) → Reached e → Covered (e .sent) × Covered (e .held)
+
+-- ---- what the tests of total calls add refuses nothing
+
+-- 25 is given by the use alone: the tests that a run lies inside, and holds its data, are passed in every end reached
+pub record UseDecides (e : End) : Type 0 where
+  pub reserved : (s : ℕ) → starts Reserved (e .tx) (e .sent) s ≡ inUse Reserved (e .sent) s
+  pub sent-data : (s : ℕ) → starts SentData (e .tx) (e .sent) s ≡ inUse SentData (e .sent) s
+  pub sent-binding : (s : ℕ) → starts SentBinding (e .tx) (e .sent) s ≡ inUse SentBinding (e .sent) s
+  pub received-data : (s : ℕ) → startsData (e .rx) (e .held) s ≡ inUse ReceivedData (e .held) s
+  pub stored-binding : (n : List ℕ) (j : ℕ) → holds (e .rx) n (bindingOf (e .bindings) j) ≡ (bindingOf (e .bindings) j .stored && same (bindingOf (e .bindings) j .name) (paddedName n))
+
+abbrev pub NothingAdded : Type 0
+NothingAdded = (e : End) → Reached e → UseDecides e
+
+-- ---- demand 2: the lowest unused address
+
+-- endpoint p uses address a
+abbrev pub uses : ℕ → Endpoint → Bool
+uses a p = not (at isUnused p) && eqb (p .address) a
+
+-- what the search gives, of eight endpoints one of which is unused
+abbrev pub AddressLowest : Type 0
+AddressLowest = (ps : List Endpoint) → length ps ≡ 8 → someEndpoint (at isUnused) ps ≡ true →
+    (someEndpoint (uses (unusedFrom 8 0 ps)) ps ≡ false) × ((a : ℕ) → a < unusedFrom 8 0 ps → someEndpoint (uses a) ps ≡ true) × (unusedFrom 8 0 ps < 8)
+
+-- ---- demand 2: no room
+
+-- n free transmit blocks from s on
+abbrev pub FreeRun : End → ℕ → ℕ → Type 0
+FreeRun e n s = (s + n ≤ e .tx .count) × ((i : ℕ) → s ≤ i → i < s + n → IsFree (e .sent) i)
+
+-- the blocks that K bytes need
+abbrev pub need : End → ℕ → ℕ
+need e k = blocksFor (e .tx) k
+
+-- the least number of blocks that hold K + 4 bytes
+abbrev pub NeedLeast : Type 0
+NeedLeast = (e : End) (k : ℕ) → isOpen e ≡ true → (k + 4 ≤ need e k * e .tx .size) × ((n : ℕ) → k + 4 ≤ n * e .tx .size → need e k ≤ n)
+
+-- what a reserve answers
+pub data Reserves (e : End) (k : ℕ) : Outcome → Type 0 where
+  too-long : e .tx .count < need e k → Reserves e k (refused e 23)
+  no-room : need e k ≤ e .tx .count → ((s : ℕ) → FreeRun e (need e k) s → ⊥) → Reserves e k (refused e 24)
+  at-lowest : (s : ℕ) → need e k ≤ e .tx .count → FreeRun e (need e k) s → ((i : ℕ) → i < s → FreeRun e (need e k) i → ⊥) →
+      Reserves e k (accepted (withSent e (taken (e .sent) Reserved s (need e k) 0 0)) (s ∷ need e k ∷ []))
+
+-- at an open end one of these is so, and the number says which
+abbrev pub ReserveSays : Type 0
+ReserveSays = (e : End) (k : ℕ) → isOpen e ≡ true → Reserves e k (step e (reserve k))
+
+-- 24 exactly when the need is at most the count and no run of that many free blocks exists
+abbrev pub NoRoom : Type 0
+NoRoom = (e : End) (k : ℕ) → isOpen e ≡ true →
+    (step e (reserve k) .number ≡ 24) ↔ ((need e k ≤ e .tx .count) × ((s : ℕ) → FreeRun e (need e k) s → ⊥))
