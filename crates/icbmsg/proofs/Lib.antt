@@ -9,3 +9,5 @@ pub mod OpenEnds
 pub mod Promises
 pub mod ClosedEnds
 pub mod NewerPartner
+pub mod BenchCases
+pub mod NewerPartnerExample

@@ -12,3 +12,4 @@ pub mod Reading
 pub mod WellFormed
 pub mod Theorems
 pub mod NewerPartner
+pub mod BenchCases

@@ -1,0 +1,17 @@
+-- The starred bench cases, computed.
+use mathlib.Core.Path.{refl}
+use Rattle.wire.specs.Bytes.{littleEndian, writes, same}
+use Rattle.region.specs.Layout.{isAlignment, isBlockCount, areBounds, roundDown, roundUp, ringMinimum, alignedSize, blockSizeOf, fitted, layout}
+use Rattle.icmsg.specs.Ring.{packetLength, packet}
+use Rattle.icbmsg.specs.Tables.{allFree, fill, lowest, blocksFor, freeRun}
+use Rattle.icbmsg.specs.Endpoints.{unusedFrom, goodName}
+use Rattle.icbmsg.specs.Ends.{isOpen, changed}
+use Rattle.icbmsg.specs.Opening.{opening}
+use Rattle.icbmsg.specs.Messages.{reserveOf}
+use Rattle.icbmsg.specs.Registering.{initiates, registerOf}
+use Rattle.icbmsg.specs.Calls.{rule, lentReceive, step}
+use Rattle.icbmsg.specs.BenchCases.{StarredCases}
+
+pub starred-cases : StarredCases
+unfolding littleEndian writes same isAlignment isBlockCount areBounds roundDown roundUp ringMinimum alignedSize blockSizeOf fitted layout packetLength packet allFree fill lowest blocksFor freeRun unusedFrom goodName isOpen changed opening reserveOf initiates registerOf rule lentReceive step
+starred-cases = refl
