@@ -27,7 +27,7 @@ use Rattle.icbmsg.specs.Arrivals.{Decoded, empty, unknownKind, tooShort,
 use Rattle.icbmsg.specs.Calls.{Call, start, push, pull, reserve, room, send, drop, arrival, view, done, register, askRoom, askView, rule, lentReceive, step}
 use Rattle.icbmsg.specs.Reading.{sizeIn, contentAt}
 use Rattle.icbmsg.specs.WellFormed.{leading, blockKind, Live, sentRun, bindingOf}
-use Rattle.icbmsg.specs.Theorems.{Part, no-part, length-part, room-part, view-part, refusedValues, PartIn, partOfDecoded, partOf}
+use Rattle.icbmsg.specs.Theorems.{noRun, thisRun, freedByDecoded, freesSent, freedByName, freesHeld, Part, no-part, length-part, room-part, view-part, refusedValues, PartIn, partOfDecoded, partOf}
 use Rattle.icbmsg.proofs.LeastBlocks.{blocks-hold, blocks-least}
 use Rattle.icbmsg.proofs.Tables.{Each, every, use-is}
 use Rattle.icbmsg.proofs.RulesRead.{pull-answer}
@@ -43,36 +43,36 @@ use Rattle.icbmsg.specs.declared.End.{End}
 -- ---- how an end may change
 
 -- a table: free blocks are taken, a live run is freed, or trimmed
-pub data SentChange (c : ℕ) (good : Entry → Bool) (t : List Entry) : List Entry → Type 0 where
-  takes : (u : Use) (s n a k : ℕ) → blockKind u ≡ leading → good (runEntry u n a k) ≡ true → allFree t s n ≡ true → 1 ≤ n → s + n ≤ c → SentChange c good t (taken t u s n a k)
-  frees : (s : ℕ) → Live t s → SentChange c good t (freed t s (entry t s .count))
-  trims : (u : Use) (s n a k : ℕ) → Live t s → blockKind u ≡ leading → good (runEntry u n a k) ≡ true → 1 ≤ n → n ≤ entry t s .count →
-      SentChange c good t (taken (freed t s (entry t s .count)) u s n a k)
+pub data SentChange (F : ℕ → Type 0) (c : ℕ) (good : Entry → Bool) (t : List Entry) : List Entry → Type 0 where
+  takes : (u : Use) (s n a k : ℕ) → blockKind u ≡ leading → good (runEntry u n a k) ≡ true → allFree t s n ≡ true → 1 ≤ n → s + n ≤ c → SentChange F c good t (taken t u s n a k)
+  frees : (s : ℕ) → F s → Live t s → SentChange F c good t (freed t s (entry t s .count))
+  trims : (u : Use) (s n a k : ℕ) → F s → Live t s → blockKind u ≡ leading → good (runEntry u n a k) ≡ true → 1 ≤ n → n ≤ entry t s .count →
+      SentChange F c good t (taken (freed t s (entry t s .count)) u s n a k)
 
 -- the received table with the stored bindings
-pub data HeldChange (g : Region) (t : List Entry) (bs : List Binding) : List Entry → List Binding → Type 0 where
-  nothing : HeldChange g t bs t bs
-  receives : (s n a k : ℕ) → leb (k + 4) (n * g .size) ≡ true → allFree t s n ≡ true → 1 ≤ n → s + n ≤ g .count → HeldChange g t bs (taken t ReceivedData s n a k) bs
-  finishes : (s : ℕ) → entry t s .usage ≡ ReceivedData → HeldChange g t bs (freed t s (entry t s .count)) bs
+pub data HeldChange (G : ℕ → Type 0) (g : Region) (t : List Entry) (bs : List Binding) : List Entry → List Binding → Type 0 where
+  nothing : HeldChange G g t bs t bs
+  receives : (s n a k : ℕ) → leb (k + 4) (n * g .size) ≡ true → allFree t s n ≡ true → 1 ≤ n → s + n ≤ g .count → HeldChange G g t bs (taken t ReceivedData s n a k) bs
+  finishes : (s : ℕ) → G s → entry t s .usage ≡ ReceivedData → HeldChange G g t bs (freed t s (entry t s .count)) bs
   stores : (s n a j : ℕ) (name : List ℕ) → allFree t s n ≡ true → 1 ≤ n → s + n ≤ g .count → j < 8 → bindingOf bs j .stored ≡ false →
-      HeldChange g t bs (taken t StoredBinding s n a 0) (set bs j (record { stored = true; address = a; start = s; count = n; name = name }))
-  forgets : (j : ℕ) → j < 8 → bindingOf bs j .stored ≡ true → HeldChange g t bs (freed t (bindingOf bs j .start) (bindingOf bs j .count)) (set bs j noBinding)
+      HeldChange G g t bs (taken t StoredBinding s n a 0) (set bs j (record { stored = true; address = a; start = s; count = n; name = name }))
+  forgets : (j : ℕ) → G (bindingOf bs j .start) → j < 8 → bindingOf bs j .stored ≡ true → HeldChange G g t bs (freed t (bindingOf bs j .start) (bindingOf bs j .count)) (set bs j noBinding)
 
 -- an end
-pub data EndChange (e : End) : End → Type 0 where
-  stays : EndChange e e
-  writes : (w : ℕ) → inRule (e .tx .ring) w ≡ true → EndChange e (withWrite e w)
-  reads : (r : ℕ) → inRule (e .rx .ring) r ≡ true → EndChange e (withRead e r)
-  sends : {t : List Entry} (ps : List Endpoint) → SentChange (e .tx .count) (sentRun (e .tx)) (e .sent) t → length ps ≡ length (e .endpoints) →
-      EndChange e (changed e (e .write) (e .read) t (e .held) ps (e .bindings))
-  keeps : {t : List Entry} {bs : List Binding} (ps : List Endpoint) → HeldChange (e .rx) (e .held) (e .bindings) t bs → length ps ≡ length (e .endpoints) →
-      EndChange e (changed e (e .write) (e .read) (e .sent) t ps bs)
+pub data EndChange (F G : ℕ → Type 0) (e : End) : End → Type 0 where
+  stays : EndChange F G e e
+  writes : (w : ℕ) → inRule (e .tx .ring) w ≡ true → EndChange F G e (withWrite e w)
+  reads : (r : ℕ) → inRule (e .rx .ring) r ≡ true → EndChange F G e (withRead e r)
+  sends : {t : List Entry} (ps : List Endpoint) → SentChange F (e .tx .count) (sentRun (e .tx)) (e .sent) t → length ps ≡ length (e .endpoints) →
+      EndChange F G e (changed e (e .write) (e .read) t (e .held) ps (e .bindings))
+  keeps : {t : List Entry} {bs : List Binding} (ps : List Endpoint) → HeldChange G (e .rx) (e .held) (e .bindings) t bs → length ps ≡ length (e .endpoints) →
+      EndChange F G e (changed e (e .write) (e .read) (e .sent) t ps bs)
 
 -- ---- what a call does
 
-pub data Effect (e : End) (p : Part) : Outcome → Type 0 where
-  refuses : (n : ℕ) → leb 1 n ≡ true → Effect e p (refusedWith (refusedValues p) e n)
-  accepts : {o : Outcome} → o .number ≡ 0 → isOpen e ≡ true → PartIn e p o → EndChange e (o .next) → Effect e p o
+pub data Effect (F G : ℕ → Type 0) (e : End) (p : Part) : Outcome → Type 0 where
+  refuses : (n : ℕ) → leb 1 n ≡ true → Effect F G e p (refusedWith (refusedValues p) e n)
+  accepts : {o : Outcome} → o .number ≡ 0 → isOpen e ≡ true → PartIn e p o → EndChange F G e (o .next) → Effect F G e p o
 
 -- ---- checks
 
@@ -80,20 +80,20 @@ pub data Effect (e : End) (p : Part) : Outcome → Type 0 where
 abbrev Plain : Part → ℕ → Type 0
 Plain p n = (refusedValues p ≡ []) × (leb 1 n ≡ true)
 
-plainly : {e : End} {p : Part} (n : ℕ) → Plain p n → Effect e p (refused e n)
-plainly {e} {p} n h =
-    let r : Effect e p (refusedWith (refusedValues p) e n) = refuses n (h .1) in
+plainly : {F G : ℕ → Type 0} {e : End} {p : Part} (n : ℕ) → Plain p n → Effect F G e p (refused e n)
+plainly {F} {G} {e} {p} n h =
+    let r : Effect F G e p (refusedWith (refusedValues p) e n) = refuses n (h .1) in
     rw (h .0) at r
 
-checked : {e : End} {p : Part} {o : Outcome} (b : Bool) (n : ℕ) → Plain p n → (b ≡ true → Effect e p o) → Effect e p (check b n e o)
+checked : {F G : ℕ → Type 0} {e : End} {p : Part} {o : Outcome} (b : Bool) (n : ℕ) → Plain p n → (b ≡ true → Effect F G e p o) → Effect F G e p (check b n e o)
 checked true n h f = f refl
 checked false n h f = plainly n h
 
-found : {e : End} {p : Part} {f : ℕ → Outcome} (q : Search) (n : ℕ) → Plain p n → ((s : ℕ) → q ≡ foundAt s → Effect e p (f s)) → Effect e p (foundOr n e f q)
+found : {F G : ℕ → Type 0} {e : End} {p : Part} {f : ℕ → Outcome} (q : Search) (n : ℕ) → Plain p n → ((s : ℕ) → q ≡ foundAt s → Effect F G e p (f s)) → Effect F G e p (foundOr n e f q)
 found nowhere n h k = plainly n h
 found (foundAt s) n h k = k s refl
 
-picked : {e : End} {p : Part} {o o′ : Outcome} (b : Bool) → Effect e p o → Effect e p o′ → Effect e p (pick b o o′)
+picked : {F G : ℕ → Type 0} {e : End} {p : Part} {o o′ : Outcome} (b : Bool) → Effect F G e p o → Effect F G e p o′ → Effect F G e p (pick b o o′)
 picked true h k = h
 picked false h k = k
 
@@ -194,17 +194,17 @@ in-blocks g s n x h k = let m = mul-le-mul-right (g .size) h in omega arith
 
 -- ---- each rule
 
-whole-open : (e : End) (g : Region) (n : ℕ) → whole e g n ≡ true → isOpen e ≡ true
+pub whole-open : (e : End) (g : Region) (n : ℕ) → whole e g n ≡ true → isOpen e ≡ true
 whole-open e g n h = both (isOpen e) (eqb n (g .bytes)) h .0
 
 -- the end's test says that an own index is in rule, and the other tests of a ring
 write-effect : (e : End) (w : Bool) (ws : List (ℕ × ℕ)) (a : Answer) → (w ≡ true → isOpen e ≡ true) → ((n : ℕ) → a ≡ ringNo n → 1 ≤ n) →
-    ((k i : ℕ) → a ≡ ringYes k i → inRule (e .tx .ring) i ≡ true) → Effect e length-part (pick w (pushOutcome e ws a) (ringRefused e 6))
+    ((k i : ℕ) → a ≡ ringYes k i → inRule (e .tx .ring) i ≡ true) → Effect noRun noRun e length-part (pick w (pushOutcome e ws a) (ringRefused e 6))
 write-effect e true ws (ringNo n) o p q = refuses n (le-leb 1 n (p n refl))
 write-effect e true ws (ringYes k i) o p q = accepts refl (o refl) (refl, refl) (writes i (q k i refl))
-write-effect e false ws a o p q = refuses 6 refl
+write-effect e false ws a o p q = refuses _ refl
 
-push-effect : (e : End) (tx c : List ℕ) → Effect e length-part (pushOf e tx c)
+push-effect : (e : End) (tx c : List ℕ) → Effect noRun noRun e length-part (pushOf e tx c)
 unfolding pushOf
 push-effect e tx c =
     let g : Ring = ringOf e (e .tx) in
@@ -212,7 +212,7 @@ push-effect e tx c =
     write-effect e (whole e (e .tx) (length tx)) (o .region) (o .answer) (whole-open e (e .tx) (length tx))
     (λ n h. refusal-numbers .push tx g (e .write) c n h) (λ k i h. indexes-in-rule .push tx g (e .write) c k i h)
 
-start-effect : (e : End) (n : ℕ) → Effect e length-part (startOf e n)
+start-effect : (e : End) (n : ℕ) → Effect noRun noRun e length-part (startOf e n)
 unfolding startOf
 start-effect e n =
     let g : Ring = ringOf e (e .tx) in
@@ -221,12 +221,12 @@ start-effect e n =
     (λ m h. refusal-numbers .start n g m h) (λ k i h. indexes-in-rule .start n g k i h)
 
 read-effect : (e : End) (w : Bool) (ws bs : List (ℕ × ℕ)) (a : Answer) → (w ≡ true → isOpen e ≡ true) → ((n : ℕ) → a ≡ ringNo n → 1 ≤ n) →
-    ((k i : ℕ) → a ≡ ringYes k i → inRule (e .rx .ring) i ≡ true) → Effect e length-part (pick w (pullOutcome e ws bs a) (ringRefused e 6))
+    ((k i : ℕ) → a ≡ ringYes k i → inRule (e .rx .ring) i ≡ true) → Effect noRun noRun e length-part (pick w (pullOutcome e ws bs a) (ringRefused e 6))
 read-effect e true ws bs (ringNo n) o p q = refuses n (le-leb 1 n (p n refl))
 read-effect e true ws bs (ringYes k i) o p q = accepts refl (o refl) (refl, refl) (reads i (q k i refl))
-read-effect e false ws bs a o p q = refuses 6 refl
+read-effect e false ws bs a o p q = refuses _ refl
 
-pull-effect : (e : End) (r : List ℕ) (b : ℕ) → Effect e length-part (answer (pullRule e (length r) b) r)
+pull-effect : (e : End) (r : List ℕ) (b : ℕ) → Effect noRun noRun e length-part (answer (pullRule e (length r) b) r)
 pull-effect e r b =
     let g : Ring = ringOf e (e .rx) in
     let o : RingOutcome = answer (ringPull (length r) g (e .read) b) r in
@@ -239,25 +239,25 @@ size-pos e o = let z = sound e o in omega (arith, leb-true)
 
 -- a run of as many blocks as K needs
 take-run : (e : End) (u : Use) (a k m s : ℕ) → isOpen e ≡ true → blockKind u ≡ leading → sentRun (e .tx) (runEntry u (blocksFor (e .tx) k) a m) ≡ true →
-    freeRun (e .tx) (e .sent) (blocksFor (e .tx) k) ≡ foundAt s → SentChange (e .tx .count) (sentRun (e .tx)) (e .sent) (taken (e .sent) u s (blocksFor (e .tx) k) a m)
+    freeRun (e .tx) (e .sent) (blocksFor (e .tx) k) ≡ foundAt s → SentChange noRun (e .tx .count) (sentRun (e .tx)) (e .sent) (taken (e .sent) u s (blocksFor (e .tx) k) a m)
 unfolding freeRun
 take-run e u a k m s o su g q =
     let w = lowest-at (e .tx .count) (e .sent) 0 (blocksFor (e .tx) k) (e .tx .count) s q in
     takes u s (blocksFor (e .tx) k) a m su g (w .free-there) (blocks-one (e .tx) k (size-pos e o .0)) (w .room)
 
-reserve-effect : (e : End) (k : ℕ) → Effect e no-part (reserveOf e k)
+reserve-effect : (e : End) (k : ℕ) → Effect noRun noRun e no-part (reserveOf e k)
 unfolding reserveOf
 reserve-effect e k =
-    checked (isOpen e) 6 (refl, refl) λ o.
-    checked (leb (blocksFor (e .tx) k) (e .tx .count)) 23 (refl, refl) λ _.
-    found (freeRun (e .tx) (e .sent) (blocksFor (e .tx) k)) 24 (refl, refl) λ s q.
+    checked (isOpen e) _ (refl, refl) λ o.
+    checked (leb (blocksFor (e .tx) k) (e .tx .count)) _ (refl, refl) λ _.
+    found (freeRun (e .tx) (e .sent) (blocksFor (e .tx) k)) _ (refl, refl) λ s q.
     accepts refl o (refl, refl) (sends (e .endpoints) (take-run e Reserved 0 k 0 s o refl refl q) refl)
 
-room-effect : (e : End) (n s : ℕ) → Effect e room-part (roomOf e n s)
+room-effect : (e : End) (n s : ℕ) → Effect noRun noRun e room-part (roomOf e n s)
 unfolding roomOf
 room-effect e n s =
-    checked (whole e (e .tx) n) 6 (refl, refl) λ w.
-    checked (starts Reserved (e .tx) (e .sent) s) 25 (refl, refl) λ h.
+    checked (whole e (e .tx) n) _ (refl, refl) λ w.
+    checked (starts Reserved (e .tx) (e .sent) s) _ (refl, refl) λ h.
     let o = whole-open e (e .tx) n w in
     let z = sound e o in
     let r = run-of Reserved (e .tx) (e .sent) s h in
@@ -265,28 +265,28 @@ room-effect e n s =
     let l : 4 ≤ x = omega (arith, mul-le-mul (r .one) (leb-true 4 (e .tx .size) (z .1 .1 .1 .1 .1 .1 .1 .1 .1 .1 .0))) in
     accepts refl o (in-blocks (e .tx) s (entry (e .sent) s .count) (x - 4) (r .ends) (omega arith)) stays
 
-send-effect : (e : End) (n s a k : ℕ) → Effect e no-part (sendOf e n s a k)
+send-effect : (e : End) (n s a k : ℕ) → Effect (thisRun s) noRun e no-part (sendOf e n s a k)
 unfolding sendOf
 send-effect e n s a k =
-    checked (whole e (e .tx) n) 6 (refl, refl) λ w.
-    checked (starts Reserved (e .tx) (e .sent) s) 25 (refl, refl) λ h.
-    checked (someEndpoint (boundAt a) (e .endpoints)) 15 (refl, refl) λ _.
-    checked (leb (k + 4) (entry (e .sent) s .count * e .tx .size)) 23 (refl, refl) λ f.
+    checked (whole e (e .tx) n) _ (refl, refl) λ w.
+    checked (starts Reserved (e .tx) (e .sent) s) _ (refl, refl) λ h.
+    checked (someEndpoint (boundAt a) (e .endpoints)) _ (refl, refl) λ _.
+    checked (leb (k + 4) (entry (e .sent) s .count * e .tx .size)) _ (refl, refl) λ f.
     let o = whole-open e (e .tx) n w in
     let r = run-of Reserved (e .tx) (e .sent) s h in
     let p = size-pos e o .0 in
     accepts refl o (refl, refl)
     (sends (e .endpoints)
-    (trims SentData s (blocksFor (e .tx) k) a k (live r refl) refl (le-leb (k + 4) (blocksFor (e .tx) k * e .tx .size) (blocks-hold (e .tx) k p)) (blocks-one (e .tx) k p)
+    (trims SentData s (blocksFor (e .tx) k) a k refl (live r refl) refl (le-leb (k + 4) (blocksFor (e .tx) k * e .tx .size) (blocks-hold (e .tx) k p)) (blocks-one (e .tx) k p)
     (blocks-least (e .tx) k (entry (e .sent) s .count) (leb-true (k + 4) (entry (e .sent) s .count * e .tx .size) f) p))
     refl)
 
-drop-effect : (e : End) (s : ℕ) → Effect e no-part (dropOf e s)
+drop-effect : (e : End) (s : ℕ) → Effect (thisRun s) noRun e no-part (dropOf e s)
 unfolding dropOf
 drop-effect e s =
-    checked (isOpen e) 6 (refl, refl) λ o.
-    checked (starts Reserved (e .tx) (e .sent) s) 25 (refl, refl) λ h.
-    accepts refl o (refl, refl) (sends (e .endpoints) (frees s (live (run-of Reserved (e .tx) (e .sent) s h) refl)) refl)
+    checked (isOpen e) _ (refl, refl) λ o.
+    checked (starts Reserved (e .tx) (e .sent) s) _ (refl, refl) λ h.
+    accepts refl o (refl, refl) (sends (e .endpoints) (frees s refl (live (run-of Reserved (e .tx) (e .sent) s h) refl)) refl)
 
 -- received data
 data-run : (e : End) (s : ℕ) → startsData (e .rx) (e .held) s ≡ true →
@@ -295,62 +295,62 @@ data-run e s h =
     let w = every (starts ReceivedData (e .rx) (e .held) s ∷ leb (entry (e .held) s .length + 4) (entry (e .held) s .count * e .rx .size) ∷ []) h in
     (run-of ReceivedData (e .rx) (e .held) s (w .0), leb-true _ _ (w .1 .0))
 
-view-effect : (e : End) (n s : ℕ) → Effect e view-part (viewOf e n s)
+view-effect : (e : End) (n s : ℕ) → Effect noRun noRun e view-part (viewOf e n s)
 unfolding viewOf
 view-effect e n s =
-    checked (whole e (e .rx) n) 6 (refl, refl) λ w.
-    checked (startsData (e .rx) (e .held) s) 25 (refl, refl) λ h.
+    checked (whole e (e .rx) n) _ (refl, refl) λ w.
+    checked (startsData (e .rx) (e .held) s) _ (refl, refl) λ h.
     let d = data-run e s h in
     accepts refl (whole-open e (e .rx) n w) (in-blocks (e .rx) s (entry (e .held) s .count) (entry (e .held) s .length) (d .0 .ends) (d .1)) stays
 
-done-effect : (e : End) (s : ℕ) → Effect e no-part (doneOf e s)
+done-effect : (e : End) (s : ℕ) → Effect noRun (thisRun s) e no-part (doneOf e s)
 unfolding doneOf
 done-effect e s =
-    checked (isOpen e) 6 (refl, refl) λ o.
-    checked (startsData (e .rx) (e .held) s) 25 (refl, refl) λ h.
-    accepts refl o (refl, refl) (keeps (e .endpoints) (finishes s (data-run e s h .0 .use-is-it)) refl)
+    checked (isOpen e) _ (refl, refl) λ o.
+    checked (startsData (e .rx) (e .held) s) _ (refl, refl) λ h.
+    accepts refl o (refl, refl) (keeps (e .endpoints) (finishes s refl (data-run e s h .0 .use-is-it)) refl)
 
-roomQuestion-effect : (e : End) (s n : ℕ) → Effect e no-part (roomQuestion e s n)
+roomQuestion-effect : (e : End) (s n : ℕ) → Effect noRun noRun e no-part (roomQuestion e s n)
 unfolding roomQuestion
 roomQuestion-effect e s n =
-    checked (whole e (e .tx) n) 6 (refl, refl) λ w.
-    checked (starts Reserved (e .tx) (e .sent) s) 25 (refl, refl) λ _.
+    checked (whole e (e .tx) n) _ (refl, refl) λ w.
+    checked (starts Reserved (e .tx) (e .sent) s) _ (refl, refl) λ _.
     accepts refl (whole-open e (e .tx) n w) (refl, refl) stays
 
-viewQuestion-effect : (e : End) (s n : ℕ) → Effect e no-part (viewQuestion e s n)
+viewQuestion-effect : (e : End) (s n : ℕ) → Effect noRun noRun e no-part (viewQuestion e s n)
 unfolding viewQuestion
 viewQuestion-effect e s n =
-    checked (whole e (e .rx) n) 6 (refl, refl) λ w.
-    checked (startsData (e .rx) (e .held) s) 25 (refl, refl) λ _.
+    checked (whole e (e .rx) n) _ (refl, refl) λ w.
+    checked (startsData (e .rx) (e .held) s) _ (refl, refl) λ _.
     accepts refl (whole-open e (e .rx) n w) (refl, refl) stays
 
 -- register
-initiates-effect : (e : End) (n : List ℕ) (i : ℕ) → isOpen e ≡ true → Effect e no-part (initiates e n i)
+initiates-effect : (e : End) (n : List ℕ) (i : ℕ) → isOpen e ≡ true → Effect noRun (freedByName e n) e no-part (initiates e n i)
 unfolding initiates
 initiates-effect e n i o =
     let k : ℕ = length n + 1 in
-    checked (leb (blocksFor (e .tx) k) (e .tx .count)) 23 (refl, refl) λ _.
-    found (freeRun (e .tx) (e .sent) (blocksFor (e .tx) k)) 24 (refl, refl) λ s q.
+    checked (leb (blocksFor (e .tx) k) (e .tx .count)) _ (refl, refl) λ _.
+    found (freeRun (e .tx) (e .sent) (blocksFor (e .tx) k)) _ (refl, refl) λ s q.
     accepts refl o (refl, refl)
     (sends (become e i _ (unusedFrom 8 0 (e .endpoints)) n)
     (take-run e SentBinding (unusedFrom 8 0 (e .endpoints)) k k s o refl (le-leb (k + 4) (blocksFor (e .tx) k * e .tx .size) (blocks-hold (e .tx) k (size-pos e o .0))) q)
     (length-set (e .endpoints) i _))
 
-followed-effect : (e : End) (n : List ℕ) (i : ℕ) (q : Search) → isOpen e ≡ true → bindingAt (holds (e .rx) n) (e .bindings) ≡ q → Effect e no-part (followed e n i q)
+followed-effect : (e : End) (n : List ℕ) (i : ℕ) (q : Search) → isOpen e ≡ true → bindingAt (holds (e .rx) n) (e .bindings) ≡ q → Effect noRun (freedByName e n) e no-part (followed e n i q)
 followed-effect e n i nowhere o h = accepts refl o (refl, refl) (keeps (become e i _ 0 n) nothing (length-set (e .endpoints) i _))
 followed-effect e n i (foundAt j) o h =
     let w = first-at (holds (e .rx) n) noBinding (e .bindings) 8 0 j h in
     let b : Binding = bindingOf (e .bindings) j in
     let z = every (b .stored ∷ same (b .name) (paddedName n) ∷ lies (e .rx) (b .start) (b .count) ∷ []) (w .0) in
-    accepts refl o (refl, refl) (keeps (become e i _ (b .address) n) (forgets j (omega arith) (z .0)) (length-set (e .endpoints) i _))
+    accepts refl o (refl, refl) (keeps (become e i _ (b .address) n) (forgets j (j, h, refl) (omega arith) (z .0)) (length-set (e .endpoints) i _))
 
-register-effect : (e : End) (l : ℕ) (n : List ℕ) → Effect e no-part (registerOf e l n)
+register-effect : (e : End) (l : ℕ) (n : List ℕ) → Effect noRun (freedByName e n) e no-part (registerOf e l n)
 unfolding registerOf
 register-effect e l n =
-    checked (whole e (e .tx) l) 6 (refl, refl) λ w.
-    checked (goodName n) 20 (refl, refl) λ _.
-    checked (not (someEndpoint (registered n) (e .endpoints))) 21 (refl, refl) λ _.
-    found (endpointAt (at isUnused) (e .endpoints)) 22 (refl, refl) λ i _.
+    checked (whole e (e .tx) l) _ (refl, refl) λ w.
+    checked (goodName n) _ (refl, refl) λ _.
+    checked (not (someEndpoint (registered n) (e .endpoints))) _ (refl, refl) λ _.
+    found (endpointAt (at isUnused) (e .endpoints)) _ (refl, refl) λ i _.
     let o = whole-open e (e .tx) l w in
     picked (e .initiator) (initiates-effect e n i o) (followed-effect e n i (bindingAt (holds (e .rx) n) (e .bindings)) o refl)
 
@@ -361,77 +361,77 @@ fit-run g b k p h f =
     let l = ltb-true b (g .count) h in
     omega (arith, blocks-least g k (g .count - b) (leb-true (k + 4) ((g .count - b) * g .size) f) p)
 
-data-effect : (e : End) (a b : ℕ) (r : List ℕ) → isOpen e ≡ true → Effect e view-part (answer (dataRule e a b) r)
+data-effect : (e : End) (a b : ℕ) (r : List ℕ) → isOpen e ≡ true → Effect noRun noRun e view-part (answer (dataRule e a b) r)
 data-effect e a b r o =
     let k : ℕ = sizeIn e b r in
     let g : Region = e .rx in
     let p = size-pos e o .1 in
     rw (data-flat e a b r)
-    (checked (leb a 0xFD) 14 (refl, refl) λ _.
-    checked (someEndpoint (boundAt a) (e .endpoints)) 15 (refl, refl) λ _.
-    checked (ltb b (g .count)) 16 (refl, refl) λ h.
-    checked (fitsArea e b k) 17 (refl, refl) λ f.
-    checked (areFree e b k) 18 (refl, refl) λ u.
+    (checked (leb a 0xFD) _ (refl, refl) λ _.
+    checked (someEndpoint (boundAt a) (e .endpoints)) _ (refl, refl) λ _.
+    checked (ltb b (g .count)) _ (refl, refl) λ h.
+    checked (fitsArea e b k) _ (refl, refl) λ f.
+    checked (areFree e b k) _ (refl, refl) λ u.
     let m = fit-run g b k p h f in
     let x = blocks-hold g k p in
     accepts refl o (in-blocks g b (blocksFor g k) k m x)
     (keeps (e .endpoints) (receives b (blocksFor g k) a k (le-leb (k + 4) (blocksFor g k * g .size) x) u (blocks-one g k p) m) refl))
 
-release-effect : (e : End) (b : ℕ) → isOpen e ≡ true → Effect e no-part (releaseOf e b)
+release-effect : (e : End) (b : ℕ) → isOpen e ≡ true → Effect (thisRun b) noRun e no-part (releaseOf e b)
 unfolding releaseOf
 release-effect e b o =
-    checked (ltb b (e .tx .count)) 16 (refl, refl) λ _.
-    checked (starts SentData (e .tx) (e .sent) b) 25 (refl, refl) λ h.
-    accepts refl o (refl, refl) (sends (e .endpoints) (frees b (live (run-of SentData (e .tx) (e .sent) b h) refl)) refl)
+    checked (ltb b (e .tx .count)) _ (refl, refl) λ _.
+    checked (starts SentData (e .tx) (e .sent) b) _ (refl, refl) λ h.
+    accepts refl o (refl, refl) (sends (e .endpoints) (frees b refl (live (run-of SentData (e .tx) (e .sent) b h) refl)) refl)
 
 boundNow-length : (ps : List Endpoint) (a : ℕ) (q : Search) → length (boundNow ps a q) ≡ length ps
 boundNow-length ps a nowhere = refl
 boundNow-length ps a (foundAt i) = length-set ps i _
 
-bindingReleased-effect : (e : End) (a b : ℕ) → isOpen e ≡ true → Effect e no-part (releasedBoundOf e a b)
+bindingReleased-effect : (e : End) (a b : ℕ) → isOpen e ≡ true → Effect (thisRun b) noRun e no-part (releasedBoundOf e a b)
 unfolding releasedBoundOf
 bindingReleased-effect e a b o =
-    checked (leb a 0xFD) 14 (refl, refl) λ _.
-    checked (ltb b (e .tx .count)) 16 (refl, refl) λ _.
-    checked (starts SentBinding (e .tx) (e .sent) b && eqb (entry (e .sent) b .address) a) 25 (refl, refl) λ h.
+    checked (leb a 0xFD) _ (refl, refl) λ _.
+    checked (ltb b (e .tx .count)) _ (refl, refl) λ _.
+    checked (starts SentBinding (e .tx) (e .sent) b && eqb (entry (e .sent) b .address) a) _ (refl, refl) λ h.
     let r = run-of SentBinding (e .tx) (e .sent) b (both (starts SentBinding (e .tx) (e .sent) b) _ h .0) in
     let q : Search = endpointAt (waitingAt a) (e .endpoints) in
-    accepts refl o (refl, refl) (sends (boundNow (e .endpoints) a q) (frees b (live r refl)) (boundNow-length (e .endpoints) a q))
+    accepts refl o (refl, refl) (sends (boundNow (e .endpoints) a q) (frees b refl (live r refl)) (boundNow-length (e .endpoints) a q))
 
 boundTo-effect : (e : End) (a b n : ℕ) (its : List ℕ) (q : Search) → isOpen e ≡ true → allFree (e .held) b n ≡ true → 1 ≤ n → b + n ≤ e .rx .count →
-    Effect e no-part (boundTo e a b n its q)
+    Effect noRun noRun e no-part (boundTo e a b n its q)
 boundTo-effect e a b n its nowhere o f l m =
-    found (bindingAt (λ x. not (x .stored)) (e .bindings)) 22 (refl, refl) λ j h.
+    found (bindingAt (λ x. not (x .stored)) (e .bindings)) _ (refl, refl) λ j h.
     let w = first-at (λ x. not (x .stored)) noBinding (e .bindings) 8 0 j h in
     accepts refl o (refl, refl) (keeps (e .endpoints) (stores b n a j (paddedName its) f l m (omega arith) (not-true _ (w .0))) refl)
 boundTo-effect e a b n its (foundAt i) o f l m = accepts refl o (refl, refl) (keeps (become e i _ a its) nothing (length-set (e .endpoints) i _))
 
 named-effect : (e : End) (a b n : ℕ) (q : Name) → isOpen e ≡ true → allFree (e .held) b n ≡ true → 1 ≤ n → b + n ≤ e .rx .count →
-    Effect e no-part (withName e (boundNamed e a b n) q)
+    Effect noRun noRun e no-part (withName e (boundNamed e a b n) q)
 unfolding boundNamed
-named-effect e a b n endless o f l m = refuses 20 refl
+named-effect e a b n endless o f l m = refuses _ refl
 named-effect e a b n (name cs) o f l m =
-    checked (leb 1 (length cs)) 20 (refl, refl) λ _.
-    checked (not (someEndpoint (clashes a cs) (e .endpoints)) && not (someBinding (clashesStored a cs) (e .bindings))) 21 (refl, refl) λ _.
+    checked (leb 1 (length cs)) _ (refl, refl) λ _.
+    checked (not (someEndpoint (clashes a cs) (e .endpoints)) && not (someBinding (clashesStored a cs) (e .bindings))) _ (refl, refl) λ _.
     boundTo-effect e a b n cs (endpointAt (waitingFor cs) (e .endpoints)) o f l m
 
-bound-effect : (e : End) (a b : ℕ) (r : List ℕ) → isOpen e ≡ true → Effect e no-part (answer (boundRule e a b) r)
+bound-effect : (e : End) (a b : ℕ) (r : List ℕ) → isOpen e ≡ true → Effect noRun noRun e no-part (answer (boundRule e a b) r)
 bound-effect e a b r o =
     let k : ℕ = sizeIn e b r in
     let g : Region = e .rx in
     let p = size-pos e o .1 in
     rw (bound-flat e a b r)
-    (checked (not (e .initiator)) 19 (refl, refl) λ _.
-    checked (leb a 0xFD) 14 (refl, refl) λ _.
-    checked (ltb b (g .count)) 16 (refl, refl) λ h.
-    checked (fitsArea e b k) 17 (refl, refl) λ f.
-    checked (areFree e b k) 18 (refl, refl) λ u.
+    (checked (not (e .initiator)) _ (refl, refl) λ _.
+    checked (leb a 0xFD) _ (refl, refl) λ _.
+    checked (ltb b (g .count)) _ (refl, refl) λ h.
+    checked (fitsArea e b k) _ (refl, refl) λ f.
+    checked (areFree e b k) _ (refl, refl) λ u.
     named-effect e a b (blocksFor g k) (nameIn (min k 32) (contentAt e b) r) o u (blocks-one g k p) (fit-run g b k p h f))
 
-decoded-effect : (e : End) (l : Decoded) (r : List ℕ) → isOpen e ≡ true → Effect e (partOfDecoded l) (answer (decodedRule e l) r)
-decoded-effect e empty r o = refuses 12 refl
-decoded-effect e unknownKind r o = refuses 13 refl
-decoded-effect e tooShort r o = refuses 12 refl
+decoded-effect : (e : End) (l : Decoded) (r : List ℕ) → isOpen e ≡ true → Effect (freedByDecoded l) noRun e (partOfDecoded l) (answer (decodedRule e l) r)
+decoded-effect e empty r o = refuses _ refl
+decoded-effect e unknownKind r o = refuses _ refl
+decoded-effect e tooShort r o = refuses _ refl
 decoded-effect e (dataSent a b) r o = data-effect e a b r o
 decoded-effect e (dataReleased b) r o = release-effect e b o
 decoded-effect e (bindingSent a b) r o = bound-effect e a b r o
@@ -446,14 +446,14 @@ plain (dataReleased b) = refl
 plain (bindingSent a b) = refl
 plain (bindingReleased a b) = refl
 
-arrival-effect : (e : End) (w : Bool) (l : Decoded) (r : List ℕ) → (w ≡ true → isOpen e ≡ true) → Effect e (partOfDecoded l) (answer (guard w 6 e (decodedRule e l)) r)
+arrival-effect : (e : End) (w : Bool) (l : Decoded) (r : List ℕ) → (w ≡ true → isOpen e ≡ true) → Effect (freedByDecoded l) noRun e (partOfDecoded l) (answer (guard w 6 e (decodedRule e l)) r)
 arrival-effect e true l r h = decoded-effect e l r (h refl)
-arrival-effect e false l r h = plainly 6 (plain l, refl)
+arrival-effect e false l r h = plainly _ (plain l, refl)
 
 -- ---- each call
 
-pub effect : (e : End) (c : Call) → Effect e (partOf c) (step e c)
-unfolding step rule lentReceive partOf arrivalRule
+pub effect : (e : End) (c : Call) → Effect (freesSent c) (freesHeld e c) e (partOf c) (step e c)
+unfolding step rule lentReceive partOf freesSent freesHeld arrivalRule
 effect e (start tx) = start-effect e (length tx)
 effect e (push tx c) = push-effect e tx c
 effect e (pull rx b) = pull-effect e rx (length b)

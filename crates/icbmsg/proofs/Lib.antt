@@ -11,3 +11,5 @@ pub mod ClosedEnds
 pub mod NewerPartner
 pub mod BenchCases
 pub mod NewerPartnerExample
+pub mod RunsStay
+pub mod Names

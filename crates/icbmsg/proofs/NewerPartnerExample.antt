@@ -88,12 +88,25 @@ script =
 
 script-is-allowed : Allowed follower script
 unfolding script binding grownBinding message otherMessage started otherStarted wrote writes littleEndian fromLittleEndian bytes same isAlignment isBlockCount areBounds roundDown roundUp ringMinimum alignedSize blockSizeOf fitted layout indexAt inRule isSound used packetLength packet contentLength behind roomNumber pushNumber pushWrites ringPush ringStart lookAt lookRule takenWrites takeRule ringPull blocksFor allFree fill lowest freeRun unusedFrom goodName isOpen changed opening pushOf startOf pullRule viewOf doneOf initiates registerOf boundNamed boundSized boundRule dataRule arrivalRule rule lentReceive step reading
-script-is-allowed =
-    (unknown-kind 200 (lit< tt) (λ _. refl),
-    (both (grown 0 0 refl really-grown) (longer (9 ∷ 9 ∷ []) (lit≤ tt)),
-    (unchanged,
-    (unknown-kind 4 (lit< tt) (λ _. refl),
-    (arrives {r = message} {r′ = otherMessage} {m = 0 ∷ 0 ∷ 2 ∷ []} refl (refl, (refl, (refl, (refl, tt)))),
-    (views refl,
-    (pulls {r = started} {r′ = otherStarted} {b = []} refl (refl, (refl, (refl, (refl, (refl, (refl, tt)))))),
-    (unchanged, tt))))))))
+script-is-allowed = (
+  unknown-kind 200 (lit< tt) (λ _. refl),
+  (
+    both (grown 0 0 refl really-grown) (longer (9 ∷ 9 ∷ []) (lit≤ tt)),
+    (
+      unchanged,
+      (
+        unknown-kind 4 (lit< tt) (λ _. refl),
+        (
+          arrives {r = message} {r′ = otherMessage} {m = 0 ∷ 0 ∷ 2 ∷ []} refl (refl, (refl, (refl, (refl, tt)))),
+          (
+            views refl,
+            (
+              pulls {r = started} {r′ = otherStarted} {b = []} refl (refl, (refl, (refl, (refl, (refl, (refl, tt)))))),
+              (unchanged, tt),
+            ),
+          ),
+        ),
+      ),
+    ),
+  ),
+)

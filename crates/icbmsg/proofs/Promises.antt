@@ -39,13 +39,13 @@ use Rattle.icbmsg.specs.declared.End.{End}
 pub refusals : Refusals
 refusals e c d = go (effect e c) d
   where
-    go : {p : Part} {o : Outcome} → Effect e p o → o .number ≢ 0 → o ≡ refusedWith (refusedValues p) e (o .number)
+    go : {F G : ℕ → Type 0} {p : Part} {o : Outcome} → Effect F G e p o → o .number ≢ 0 → o ≡ refusedWith (refusedValues p) e (o .number)
     go (refuses n h) d = refl
     go (accepts z o p m) d = absurd (d z)
 
 -- ---- open ends
 
-moved-numbers : {e e′ : End} → EndChange e e′ → SameNumbers e e′
+moved-numbers : {F G : ℕ → Type 0} {e e′ : End} → EndChange F G e e′ → SameNumbers e e′
 unfolding changed
 moved-numbers stays = record { initiator = refl; align = refl; tx = refl; rx = refl }
 moved-numbers (writes w h) = record { initiator = refl; align = refl; tx = refl; rx = refl }
@@ -56,11 +56,11 @@ moved-numbers (keeps ps h q) = record { initiator = refl; align = refl; tx = ref
 pub numbers-stay : NumbersStay
 numbers-stay e c = go (effect e c)
   where
-    go : {p : Part} {o : Outcome} → Effect e p o → SameNumbers e (o .next)
-    go (refuses n h) = moved-numbers stays
+    go : {F G : ℕ → Type 0} {p : Part} {o : Outcome} → Effect F G e p o → SameNumbers e (o .next)
+    go {F} {G} (refuses n h) = moved-numbers {F = F} {G = G} stays
     go (accepts z o p m) = moved-numbers m
 
-moved-open : {e e′ : End} → EndChange e e′ → isOpen e ≡ true → isOpen e′ ≡ true
+moved-open : {F G : ℕ → Type 0} {e e′ : End} → EndChange F G e e′ → isOpen e ≡ true → isOpen e′ ≡ true
 unfolding changed isOpen inRule
 moved-open stays o = o
 moved-open {e} (writes w h) o =
@@ -78,7 +78,7 @@ moved-open (keeps ps h q) o = o
 pub open-stays : OpenStays
 open-stays e c = go (effect e c)
   where
-    go : {p : Part} {o : Outcome} → Effect e p o → isOpen (o .next) ≡ isOpen e
+    go : {F G : ℕ → Type 0} {p : Part} {o : Outcome} → Effect F G e p o → isOpen (o .next) ≡ isOpen e
     go (refuses n h) = refl
     go (accepts z o p m) = moved-open m o ∙ sym o
 
@@ -97,7 +97,7 @@ open-after o cs = go (opening o .end) cs ∙ open-exactly o
 pub parts-inside : PartsInside
 parts-inside e c z = go (effect e c) z
   where
-    go : {p : Part} {o : Outcome} → Effect e p o → o .number ≡ 0 → PartIn e p o
+    go : {F G : ℕ → Type 0} {p : Part} {o : Outcome} → Effect F G e p o → o .number ≡ 0 → PartIn e p o
     go (refuses n h) z = absurd (omega (arith, leb-true 1 n h))
     go (accepts z o p m) _ = p
 
@@ -124,7 +124,7 @@ received-used g {t} o s = rw (starts-used g o ReceivedData refl s) (go (inUse Re
     go false q = refl
     go true q = rw (received-long g (entry t s) (o .passes s (rw (use-is ReceivedData (entry t s .usage) q))) q)
 
-stored-holds : (g : Region) {t : List Entry} {bs : List Binding} → WellFormed (g .count) (heldRun g) t → Stored t bs → (n : List ℕ) (j : ℕ) →
+pub stored-holds : (g : Region) {t : List Entry} {bs : List Binding} → WellFormed (g .count) (heldRun g) t → Stored t bs → (n : List ℕ) (j : ℕ) →
     holds g n (bindingOf bs j) ≡ (bindingOf bs j .stored && same (bindingOf bs j .name) (paddedName n))
 stored-holds g {t} {bs} o w n j = go (bindingOf bs j .stored) (same (bindingOf bs j .name) (paddedName n)) refl
   where
@@ -145,7 +145,7 @@ nothing-added e r =
       sent-data = starts-used (e .tx) (w .sent) SentData refl;
       sent-binding = starts-used (e .tx) (w .sent) SentBinding refl;
       received-data = received-used (e .rx) (w .held);
-      stored-binding = stored-holds (e .rx) (w .held) (w .bindingStored);
+      stored-binding = stored-holds (e .rx) (w .held) (w .stored);
     }
 
 -- ---- no room

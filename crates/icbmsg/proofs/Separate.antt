@@ -29,11 +29,11 @@ use Rattle.icbmsg.specs.declared.End.{End}
 
 -- ---- stored bindings
 
-data Is (j : ℕ) : ℕ → Type 0 where
+pub data Is (j : ℕ) : ℕ → Type 0 where
   that : Is j j
   another : {i : ℕ} → i ≢ j → Is j i
 
-is : (j i : ℕ) → Is j i
+pub is : (j i : ℕ) → Is j i
 is j i = go (eqb j i) refl
   where
     go : (b : Bool) → eqb j i ≡ b → Is j i
@@ -141,20 +141,20 @@ module _ {t t′ : List Entry} {bs : List Binding} (w : Stored t bs) (j : ℕ) (
 
 -- ---- the laws, for each way that an end may change
 
-turned : {c : ℕ} {good : Entry → Bool} {t t′ : List Entry} → WellFormed c good t → c ≤ 256 → SentChange c good t t′ → WellFormed c good t′
+turned : {F : ℕ → Type 0} {c : ℕ} {good : Entry → Bool} {t t′ : List Entry} → WellFormed c good t → c ≤ 256 → SentChange F c good t t′ → WellFormed c good t′
 turned {t = t} o b (takes u s n a k su g f l m) = take-law o b u s n a k su g (λ i p q. free-at t s n i f p q) l m
-turned o b (frees s l) = free-law o b s l
-turned o b (trims u s n a k l su g h m) = trim-law o b u s n a k l su g h m
+turned o b (frees s f l) = free-law o b s l
+turned o b (trims u s n a k f l su g h m) = trim-law o b u s n a k l su g h m
 
 stored-good : (g : Region) (n a k : ℕ) → heldRun g (runEntry StoredBinding n a k) ≡ true
 stored-good g n a k = refl
 
-kept-table : {g : Region} {t t′ : List Entry} {bs bs′ : List Binding} → WellFormed (g .count) (heldRun g) t → Stored t bs → g .count ≤ 256 → HeldChange g t bs t′ bs′ → WellFormed (g .count) (heldRun g) t′
+kept-table : {G : ℕ → Type 0} {g : Region} {t t′ : List Entry} {bs bs′ : List Binding} → WellFormed (g .count) (heldRun g) t → Stored t bs → g .count ≤ 256 → HeldChange G g t bs t′ bs′ → WellFormed (g .count) (heldRun g) t′
 kept-table o w b nothing = o
 kept-table {t = t} o w b (receives s n a k h f l m) = take-law o b ReceivedData s n a k refl h (λ i p q. free-at t s n i f p q) l m
-kept-table o w b (finishes s h) = free-law o b s (rw h)
+kept-table o w b (finishes s f h) = free-law o b s (rw h)
 kept-table {t = t} o w b (stores s n a j name f l m lj z) = take-law o b StoredBinding s n a 0 refl refl (λ i p q. free-at t s n i f p q) l m
-kept-table {bs = bs} o w b (forgets j lj k) = let r = w .runs j k in rw (← (r .1)) (free-law o b (bindingOf bs j .start) (stored-live (r .0)))
+kept-table {bs = bs} o w b (forgets j f lj k) = let r = w .runs j k in rw (← (r .1)) (free-law o b (bindingOf bs j .start) (stored-live (r .0)))
 
 -- two uses that differ
 differ : (u : Use) → u ≡ ReceivedData → u ≡ StoredBinding → ⊥
@@ -171,12 +171,12 @@ not-data {x = x} (its-first e) d h = absurd (differ (x .usage) d (rw e at h))
 not-data (its-later p q e) d h = absurd (clash (stored-live (rw e at h)) refl refl)
 not-data (apart p e) d h = e
 
-kept-stored : {g : Region} {t t′ : List Entry} {bs bs′ : List Binding} → WellFormed (g .count) (heldRun g) t → Stored t bs → g .count ≤ 256 → HeldChange g t bs t′ bs′ → Stored t′ bs′
+kept-stored : {G : ℕ → Type 0} {g : Region} {t t′ : List Entry} {bs bs′ : List Binding} → WellFormed (g .count) (heldRun g) t → Stored t bs → g .count ≤ 256 → HeldChange G g t bs t′ bs′ → Stored t′ bs′
 kept-stored o w b nothing = w
 kept-stored {t = t} o w b (receives s n a k h f l m) =
     let v = taken-view o b ReceivedData s n a k l m in
     same-stored w (λ i q. taken-stays o v (λ j p r. free-at t s n j f p r) l i (stored-live q)) (λ i q. not-data (v i) refl q)
-kept-stored {t = t} o w b (finishes s h) =
+kept-stored {t = t} o w b (finishes s f h) =
     let l : Live t s = rw h in
     let v = freed-view o b s l in
     same-stored w (λ i q. freed-stays o l v i (stored-live q) (λ (r : s ≡ i). differ (entry t i .usage) (rw r at h) q)) (λ i q. freed-live o l v i (stored-live q) .0)
@@ -186,31 +186,31 @@ kept-stored {t = t} o w b (stores s n a j name f l m lj z) =
     let e = taken-first o v fr l in
     more-stored w (record { stored = true; address = a; start = s; count = n; name = name }) j lj z refl (fr s (omega arith) (omega arith)) (rw e (refl, refl))
     (taken-stays o v fr l) (λ i d q. old-run (v i) d q)
-kept-stored {t = t} {bs = bs} o w b (forgets j lj k) =
+kept-stored {t = t} {bs = bs} o w b (forgets j f lj k) =
     let r = w .runs j k in
     let s : ℕ = bindingOf bs j .start in
     let l : Live t s = stored-live (r .0) in
     let v = freed-view o b s l in
     rw (← (r .1)) (less-stored w j lj k (freed-stays o l v) (freed-live o l v))
 
-moved : {e e′ : End} → isOpen e ≡ true → EndChange e e′ → Separate e → Separate e′
+moved : {F G : ℕ → Type 0} {e e′ : End} → isOpen e ≡ true → EndChange F G e e′ → Separate e → Separate e′
 unfolding changed
 moved p stays w = w
-moved p (writes x h) w = record { sent = w .sent; held = w .held; bindingStored = w .bindingStored; eight = w .eight }
-moved p (reads x h) w = record { sent = w .sent; held = w .held; bindingStored = w .bindingStored; eight = w .eight }
+moved p (writes x h) w = record { sent = w .sent; held = w .held; stored = w .stored; eight = w .eight }
+moved p (reads x h) w = record { sent = w .sent; held = w .held; stored = w .stored; eight = w .eight }
 moved {e} p (sends ps h q) w =
     let z = sound e p in
-    record { sent = turned (w .sent) (omega (arith, leb-true)) h; held = w .held; bindingStored = w .bindingStored; eight = q ∙ w .eight }
+    record { sent = turned (w .sent) (omega (arith, leb-true)) h; held = w .held; stored = w .stored; eight = q ∙ w .eight }
 moved {e} p (keeps ps h q) w =
     let z = sound e p in
     let b : e .rx .count ≤ 256 = omega (arith, leb-true) in
-    record { sent = w .sent; held = kept-table (w .held) (w .bindingStored) b h; bindingStored = kept-stored (w .held) (w .bindingStored) b h; eight = q ∙ w .eight }
+    record { sent = w .sent; held = kept-table (w .held) (w .stored) b h; stored = kept-stored (w .held) (w .stored) b h; eight = q ∙ w .eight }
 
 -- every call keeps it, whatever bytes are lent
 pub stays-separate : (e : End) (c : Call) → Separate e → Separate (step e c .next)
 stays-separate e c w = go (effect e c) w
   where
-    go : {p : Part} {o : Outcome} → Effect e p o → Separate e → Separate (o .next)
+    go : {F G : ℕ → Type 0} {p : Part} {o : Outcome} → Effect F G e p o → Separate e → Separate (o .next)
     go (refuses n h) w = w
     go (accepts z o p m) w = moved o m w
 
@@ -235,7 +235,7 @@ fresh-separate i a g h =
     record {
       sent = fresh-well-formed (g .count) (sentRun g);
       held = fresh-well-formed (h .count) (heldRun h);
-      bindingStored = fresh-stored 256 8 refl;
+      stored = fresh-stored 256 8 refl;
       eight = length-replicate 8 noEndpoint;
     }
 

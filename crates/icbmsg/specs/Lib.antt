@@ -13,3 +13,4 @@ pub mod WellFormed
 pub mod Theorems
 pub mod NewerPartner
 pub mod BenchCases
+pub mod Names

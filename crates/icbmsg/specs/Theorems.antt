@@ -7,8 +7,8 @@ use mathlib.Core.List.{List, [], _∷_}
 use lib.Dec.{eqb}
 use Rattle.wire.specs.Bytes.{same}
 use Rattle.icbmsg.specs.Outcome.{Outcome, refusedWith, refused, accepted}
-use Rattle.icbmsg.specs.Tables.{entry, starts, startsData, taken, blocksFor, inUse}
-use Rattle.icbmsg.specs.Endpoints.{at, isUnused, someEndpoint, unusedFrom, paddedName, holds}
+use Rattle.icbmsg.specs.Tables.{foundAt, entry, starts, startsData, taken, blocksFor, inUse}
+use Rattle.icbmsg.specs.Endpoints.{bindingAt, at, isUnused, someEndpoint, unusedFrom, paddedName, holds}
 use Rattle.icbmsg.specs.Ends.{isOpen, withSent}
 use Rattle.icbmsg.specs.Opening.{Opening, opening}
 use Rattle.icbmsg.specs.Arrivals.{Decoded, empty, unknownKind, tooShort, dataSent, dataReleased, bindingSent, bindingReleased, decode}
@@ -134,6 +134,75 @@ Covered t = (i : ℕ) → (entry t i .usage ≡ Free → ⊥) → (s : ℕ) × L
 
 abbrev pub BlocksCovered : Type 0
 BlocksCovered = (e : End) → Reached e → Covered (e .sent) × Covered (e .held)
+
+-- ---- demand 1: a message's blocks stay its own
+
+-- the live transmit run that an accepted call frees or trims, by its start
+abbrev pub noRun : ℕ → Type 0
+noRun s = ⊥
+
+abbrev pub thisRun : ℕ → ℕ → Type 0
+thisRun s x = x ≡ s
+
+abbrev pub freedByDecoded : Decoded → ℕ → Type 0
+freedByDecoded empty = noRun
+freedByDecoded unknownKind = noRun
+freedByDecoded tooShort = noRun
+freedByDecoded (dataSent a b) = noRun
+freedByDecoded (dataReleased b) = thisRun b
+freedByDecoded (bindingSent a b) = noRun
+freedByDecoded (bindingReleased a b) = thisRun b
+
+unfoldable pub freesSent : Call → ℕ → Type 0
+freesSent (start tx) = noRun
+freesSent (push tx c) = noRun
+freesSent (pull rx b) = noRun
+freesSent (reserve k) = noRun
+freesSent (room tx s) = noRun
+freesSent (send tx s a k) = thisRun s
+freesSent (drop s) = thisRun s
+freesSent (arrival rx m) = freedByDecoded (decode m)
+freesSent (view rx s) = noRun
+freesSent (done s) = noRun
+freesSent (register tx n) = noRun
+freesSent (askRoom s n) = noRun
+freesSent (askView s n) = noRun
+
+-- the live receive run that an accepted call frees: of a register, the stored binding that has its name
+abbrev pub freedByName : End → List ℕ → ℕ → Type 0
+freedByName e n x = (j : ℕ) × (bindingAt (holds (e .rx) n) (e .bindings) ≡ foundAt j) × (bindingOf (e .bindings) j .start ≡ x)
+
+unfoldable pub freesHeld : End → Call → ℕ → Type 0
+freesHeld e (start tx) = noRun
+freesHeld e (push tx c) = noRun
+freesHeld e (pull rx b) = noRun
+freesHeld e (reserve k) = noRun
+freesHeld e (room tx s) = noRun
+freesHeld e (send tx s a k) = noRun
+freesHeld e (drop s) = noRun
+freesHeld e (arrival rx m) = noRun
+freesHeld e (view rx s) = noRun
+freesHeld e (done s) = thisRun s
+freesHeld e (register tx n) = freedByName e n
+freesHeld e (askRoom s n) = noRun
+freesHeld e (askView s n) = noRun
+
+-- none of these calls, one after the other, is accepted and frees the run
+abbrev pub SentKept : End → ℕ → List Call → Type 0
+SentKept e s [] = Unit {0}
+SentKept e s (c ∷ cs) = (step e c .number ≡ 0 → freesSent c s → ⊥) × SentKept (step e c .next) s cs
+
+abbrev pub HeldKept : End → ℕ → List Call → Type 0
+HeldKept e s [] = Unit {0}
+HeldKept e s (c ∷ cs) = (step e c .number ≡ 0 → freesHeld e c s → ⊥) × HeldKept (step e c .next) s cs
+
+-- A message's blocks stay its own, from the accepted call that took them to the accepted call that frees them: whatever calls and
+-- bytes come between, each of its blocks has the entry that it had, so that none is handed out again.
+abbrev pub RunsStay : Type 0
+RunsStay =
+    (e : End) → Reached e → (s : ℕ) (cs : List Call) →
+    (Live (e .sent) s → SentKept e s cs → (i : ℕ) → InRun (e .sent) s i → entry (left e cs .sent) i ≡ entry (e .sent) i)
+    × (Live (e .held) s → HeldKept e s cs → (i : ℕ) → InRun (e .held) s i → entry (left e cs .held) i ≡ entry (e .held) i)
 
 -- ---- what the tests of total calls add refuses nothing
 

@@ -85,5 +85,5 @@ pub record Stored (t : List Entry) (bs : List Binding) : Type 0 where
 pub record Separate (e : End) : Type 0 where
   pub sent : WellFormed (e .tx .count) (sentRun (e .tx)) (e .sent)
   pub held : WellFormed (e .rx .count) (heldRun (e .rx)) (e .held)
-  pub bindingStored : Stored (e .held) (e .bindings)
+  pub stored : Stored (e .held) (e .bindings)
   pub eight : length (e .endpoints) ≡ 8

@@ -1,0 +1,136 @@
+-- A message's blocks stay its own until an accepted call frees them.
+use Prim.Native.Nat.{ℕ, _+_, _≤_, _<_}
+use mathlib.Core.Bool.{Bool, true}
+use mathlib.Core.Path.{_≡_, refl, sym, ap, subst, _∙_}
+use mathlib.Core.List.{List, [], _∷_}
+use native.Mathlib.Omega.{arith}
+use borrow.Author.Tests.{leb-true}
+use Rattle.icbmsg.specs.Outcome.{Outcome}
+use Rattle.icbmsg.specs.Tables.{entry, allFree, freed, taken, runEntry}
+use Rattle.icbmsg.specs.Ends.{isOpen, changed}
+use Rattle.icbmsg.specs.Calls.{Call, step}
+use Rattle.icbmsg.specs.WellFormed.{blockKind, IsFree, Live, InRun, WellFormed, heldRun, bindingOf, Stored, Separate}
+use Rattle.icbmsg.specs.Theorems.{Part, Reached, called, left, freesSent, freesHeld, SentKept, HeldKept, RunsStay}
+use Rattle.icbmsg.proofs.Tables.{clash, Relation, below, first, later, above, relation, one-run, Taken, its-first, its-later, apart, Freed, gone, free-at, freed-view, taken-view, free-law}
+use Rattle.icbmsg.proofs.Effects.{SentChange, takes, frees, trims, HeldChange, nothing, receives, finishes, stores, forgets, EndChange, stays, writes, reads, sends, keeps, Effect, refuses, accepts, sound, effect}
+use Rattle.icbmsg.proofs.Separate.{separate}
+use Rattle.icbmsg.specs.declared.Use.{Use}
+use Rattle.icbmsg.specs.declared.Entry.{Entry}
+use Rattle.icbmsg.specs.declared.Binding.{Binding}
+use Rattle.icbmsg.specs.declared.Region.{Region}
+use Rattle.icbmsg.specs.declared.End.{End}
+
+-- ---- a table, in which a live run starts at s and has block i
+
+module _ {c : ℕ} {good : Entry → Bool} {t : List Entry} (o : WellFormed c good t) (b : c ≤ 256) (s : ℕ) (l : Live t s) (i : ℕ) (r : InRun t s i) where
+  -- it is not free
+  not-free : IsFree t i → ⊥
+  not-free f = go (relation s (entry t s .count) i) f r
+    where
+      go : {j : ℕ} → Relation s (entry t s .count) j → IsFree t j → InRun t s j → ⊥
+      go (below h) f r = omega arith
+      go first f r = clash l f refl
+      go {j} (later h h′) f r = clash (o .others s j l h h′) f refl
+      go (above h h′) f r = omega arith
+
+  -- a run taken of free blocks leaves it
+  kept-by-taking : (u : Use) (s′ n a k : ℕ) → allFree t s′ n ≡ true → 1 ≤ n → s′ + n ≤ c → entry (taken t u s′ n a k) i ≡ entry t i
+  kept-by-taking u s′ n a k f h m = go (taken-view o b u s′ n a k h m i) not-free
+    where
+      go : {j : ℕ} → Taken t (taken t u s′ n a k) (runEntry u n a k) s′ n j → (IsFree t j → ⊥) → entry (taken t u s′ n a k) j ≡ entry t j
+      go (its-first e) d = absurd (d (free-at t s′ n s′ f (omega arith) (omega arith)))
+      go {j} (its-later p q e) d = absurd (d (free-at t s′ n j f (omega arith) q))
+      go (apart p e) d = e
+
+  -- so does another run freed, or trimmed
+  module _ (s′ : ℕ) (l′ : Live t s′) (d : s′ ≡ s → ⊥) where
+    elsewhere : s′ ≤ i → i < s′ + entry t s′ .count → ⊥
+    elsewhere p q = d (one-run o s′ s i l′ l (p, q) r)
+
+    kept-by-freeing : entry (freed t s′ (entry t s′ .count)) i ≡ entry t i
+    kept-by-freeing = go (freed-view o b s′ l′ i) elsewhere
+      where
+        go : {j : ℕ} → Freed t (freed t s′ (entry t s′ .count)) s′ (entry t s′ .count) j → (s′ ≤ j → j < s′ + entry t s′ .count → ⊥) → entry (freed t s′ (entry t s′ .count)) j ≡ entry t j
+        go (gone p q e) f = absurd (f p q)
+        go (apart p e) f = e
+
+    kept-by-trimming : (u : Use) (n a k : ℕ) → 1 ≤ n → n ≤ entry t s′ .count → entry (taken (freed t s′ (entry t s′ .count)) u s′ n a k) i ≡ entry t i
+    kept-by-trimming u n a k h m =
+        go (taken-view (free-law o b s′ l′) b u s′ n a k h (omega (arith, o .within s′ l′ .1)) i) elsewhere ∙ kept-by-freeing
+      where
+        go : {j : ℕ} → Taken (freed t s′ (entry t s′ .count)) (taken (freed t s′ (entry t s′ .count)) u s′ n a k) (runEntry u n a k) s′ n j → (s′ ≤ j → j < s′ + entry t s′ .count → ⊥) →
+            entry (taken (freed t s′ (entry t s′ .count)) u s′ n a k) j ≡ entry (freed t s′ (entry t s′ .count)) j
+        go (its-first e) f = absurd (f (omega arith) (omega arith))
+        go {j} (its-later p q e) f = absurd (f (omega arith) (omega arith))
+        go (apart p e) f = e
+
+-- ---- each way that a table may change
+
+sent-kept : {F : ℕ → Type 0} {c : ℕ} {good : Entry → Bool} {t t′ : List Entry} → WellFormed c good t → c ≤ 256 → SentChange F c good t t′ →
+    (s : ℕ) → Live t s → (F s → ⊥) → (i : ℕ) → InRun t s i → entry t′ i ≡ entry t i
+sent-kept o b (takes u s′ n a k su g f h m) s l d i r = kept-by-taking o b s l i r u s′ n a k f h m
+sent-kept {F} o b (frees s′ f l′) s l d i r = kept-by-freeing o b s l i r s′ l′ (λ (q : s′ ≡ s). d (subst F q f))
+sent-kept {F} o b (trims u s′ n a k f l′ su g h m) s l d i r = kept-by-trimming o b s l i r s′ l′ (λ (q : s′ ≡ s). d (subst F q f)) u n a k h m
+
+held-kept : {G : ℕ → Type 0} {g : Region} {t t′ : List Entry} {bs bs′ : List Binding} → WellFormed (g .count) (heldRun g) t → Stored t bs → g .count ≤ 256 → HeldChange G g t bs t′ bs′ →
+    (s : ℕ) → Live t s → (G s → ⊥) → (i : ℕ) → InRun t s i → entry t′ i ≡ entry t i
+held-kept o w b nothing s l d i r = refl
+held-kept o w b (receives s′ n a k h f m x) s l d i r = kept-by-taking o b s l i r _ s′ n a k f m x
+held-kept {G} o w b (finishes s′ f h) s l d i r = kept-by-freeing o b s l i r s′ (rw h) (λ (q : s′ ≡ s). d (subst G q f))
+held-kept o w b (stores s′ n a j name f m x lj z) s l d i r = kept-by-taking o b s l i r _ s′ n a 0 f m x
+held-kept {G} {bs = bs} o w b (forgets j f lj k) s l d i r =
+    let x = w .runs j k in
+    rw (← (x .1)) (kept-by-freeing o b s l i r (bindingOf bs j .start) (rw (x .0)) (λ (q : bindingOf bs j .start ≡ s). d (subst G q f)))
+
+-- ---- a call
+
+changed-kept : {F G : ℕ → Type 0} {e e′ : End} → isOpen e ≡ true → EndChange F G e e′ → Separate e → (s : ℕ) →
+    (Live (e .sent) s → (F s → ⊥) → (i : ℕ) → InRun (e .sent) s i → entry (e′ .sent) i ≡ entry (e .sent) i)
+    × (Live (e .held) s → (G s → ⊥) → (i : ℕ) → InRun (e .held) s i → entry (e′ .held) i ≡ entry (e .held) i)
+unfolding changed
+changed-kept p stays w s = (λ l d i r. refl, λ l d i r. refl)
+changed-kept p (writes x h) w s = (λ l d i r. refl, λ l d i r. refl)
+changed-kept p (reads x h) w s = (λ l d i r. refl, λ l d i r. refl)
+changed-kept {e = e} p (sends ps h q) w s =
+    let z = sound e p in
+    (λ l d i r. sent-kept (w .sent) (omega (arith, leb-true)) h s l d i r, λ l d i r. refl)
+changed-kept {e = e} p (keeps ps h q) w s =
+    let z = sound e p in
+    (λ l d i r. refl, λ l d i r. held-kept (w .held) (w .stored) (omega (arith, leb-true)) h s l d i r)
+
+step-kept : (e : End) (c : Call) → Separate e → (s : ℕ) →
+    (Live (e .sent) s → (step e c .number ≡ 0 → freesSent c s → ⊥) → (i : ℕ) → InRun (e .sent) s i → entry (step e c .next .sent) i ≡ entry (e .sent) i)
+    × (Live (e .held) s → (step e c .number ≡ 0 → freesHeld e c s → ⊥) → (i : ℕ) → InRun (e .held) s i → entry (step e c .next .held) i ≡ entry (e .held) i)
+step-kept e c w s = go (effect e c) w
+  where
+    go : {F G : ℕ → Type 0} {p : Part} {o : Outcome} → Effect F G e p o → Separate e →
+        (Live (e .sent) s → (o .number ≡ 0 → F s → ⊥) → (i : ℕ) → InRun (e .sent) s i → entry (o .next .sent) i ≡ entry (e .sent) i)
+        × (Live (e .held) s → (o .number ≡ 0 → G s → ⊥) → (i : ℕ) → InRun (e .held) s i → entry (o .next .held) i ≡ entry (e .held) i)
+    go (refuses n h) w = (λ l d i r. refl, λ l d i r. refl)
+    go (accepts z o p m) w =
+        let k = changed-kept o m w s in
+        (λ l d i r. k .0 l (d z) i r, λ l d i r. k .1 l (d z) i r)
+
+-- ---- a list of calls
+
+own-start : {c : ℕ} {good : Entry → Bool} {t : List Entry} → WellFormed c good t → (s : ℕ) → Live t s → InRun t s s
+own-start o s l = omega (arith, o .within s l .0)
+
+sent-through : (e : End) → Reached e → (s : ℕ) (cs : List Call) → Live (e .sent) s → SentKept e s cs → (i : ℕ) → InRun (e .sent) s i → entry (left e cs .sent) i ≡ entry (e .sent) i
+sent-through e x s [] l k i r = refl
+sent-through e x s (c ∷ cs) l k i r =
+    let w = separate e x in
+    let f = step-kept e c w s .0 l (k .0) in
+    let q = f s (own-start (w .sent) s l) in
+    sent-through (step e c .next) (called c x) s cs (rw q l) (k .1) i (rw q r) ∙ f i r
+
+held-through : (e : End) → Reached e → (s : ℕ) (cs : List Call) → Live (e .held) s → HeldKept e s cs → (i : ℕ) → InRun (e .held) s i → entry (left e cs .held) i ≡ entry (e .held) i
+held-through e x s [] l k i r = refl
+held-through e x s (c ∷ cs) l k i r =
+    let w = separate e x in
+    let f = step-kept e c w s .1 l (k .0) in
+    let q = f s (own-start (w .held) s l) in
+    held-through (step e c .next) (called c x) s cs (rw q l) (k .1) i (rw q r) ∙ f i r
+
+pub runs-stay-until-freed : RunsStay
+runs-stay-until-freed e x s cs = (sent-through e x s cs, held-through e x s cs)

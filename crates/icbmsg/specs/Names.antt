@@ -1,0 +1,51 @@
+-- Names and addresses: each belongs to one endpoint or one stored binding, and each binding sent to one endpoint that waits.
+use Prim.Native.Nat.{ℕ, _<_}
+use mathlib.Core.Bool.{Bool, true, not}
+use mathlib.Core.Path.{_≡_}
+use mathlib.Core.List.{List}
+use lib.ListN.{getD}
+use Rattle.icbmsg.specs.Tables.{entry}
+use Rattle.icbmsg.specs.Endpoints.{noEndpoint, at, isUnused, isWaiting, isBound}
+use Rattle.icbmsg.specs.WellFormed.{bindingOf, IsKept}
+use Rattle.icbmsg.specs.Theorems.{Reached}
+use Rattle.icbmsg.specs.declared.Use.the-variants.{SentBinding}
+use Rattle.icbmsg.specs.declared.Entry.{Entry}
+use Rattle.icbmsg.specs.declared.Endpoint.{Endpoint}
+use Rattle.icbmsg.specs.declared.Binding.{Binding}
+use Rattle.icbmsg.specs.declared.End.{End}
+
+abbrev pub endpointOf : List Endpoint → ℕ → Endpoint
+endpointOf ps i = getD ps i noEndpoint
+
+-- waiting or bound
+abbrev pub isUsed : Endpoint → Bool
+isUsed p = not (at isUnused p)
+
+-- a binding's message is sent, and not released yet, in the run at s
+abbrev pub IsAnnounced : List Entry → ℕ → Type 0
+IsAnnounced t s = entry t s .usage ≡ SentBinding
+
+-- Of the endpoints that pass a test, and the stored bindings, no two have the same: f of an endpoint is no other's f, nor a binding's g.
+pub record Once {A : Type 0} (test : Endpoint → Bool) (f : Endpoint → A) (g : Binding → A) (ps : List Endpoint) (bs : List Binding) : Type 0 where
+  pub endpoints : (i j : ℕ) → test (endpointOf ps i) ≡ true → test (endpointOf ps j) ≡ true → f (endpointOf ps i) ≡ f (endpointOf ps j) → i ≡ j
+  pub bindings : (i j : ℕ) → IsKept bs i → IsKept bs j → g (bindingOf bs i) ≡ g (bindingOf bs j) → i ≡ j
+  pub apart : (i j : ℕ) → test (endpointOf ps i) ≡ true → IsKept bs j → f (endpointOf ps i) ≡ g (bindingOf bs j) → ⊥
+
+-- exactly one endpoint in use has address a, and it waits
+pub record WaitsAlone (ps : List Endpoint) (a : ℕ) : Type 0 where
+  pub index : ℕ
+  pub below : index < 8
+  pub waits : at isWaiting (endpointOf ps index) ≡ true
+  pub its-address : endpointOf ps index .address ≡ a
+  pub only : (j : ℕ) → isUsed (endpointOf ps j) ≡ true → endpointOf ps j .address ≡ a → j ≡ index
+
+pub record NamesAndAddresses (e : End) : Type 0 where
+  -- the address of each binding sent is that of one waiting endpoint
+  pub announced : (s : ℕ) → IsAnnounced (e .sent) s → WaitsAlone (e .endpoints) (entry (e .sent) s .address)
+  -- no name is used twice, by endpoints in use and stored bindings
+  pub names : Once isUsed (λ p. p .name) (λ b. b .name) (e .endpoints) (e .bindings)
+  -- no address is used twice, by bound endpoints and stored bindings
+  pub addresses : Once (at isBound) (λ p. p .address) (λ b. b .address) (e .endpoints) (e .bindings)
+
+abbrev pub NamesKept : Type 0
+NamesKept = (e : End) → Reached e → NamesAndAddresses e
