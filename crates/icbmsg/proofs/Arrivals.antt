@@ -7,7 +7,7 @@ use lib.Dec.{leb, ltb, eqb}
 use lib.ListN.{getD}
 use Rattle.wire.specs.Choice.{pick}
 use Rattle.wire.specs.Reads.{gives, answer}
-use Rattle.icbmsg.specs.Outcome.{Outcome, refused, Rule, check}
+use Rattle.icbmsg.specs.Outcome.{Outcome, refused, accepted, Rule, check}
 use Rattle.icbmsg.specs.Tables.{blocksFor, blockAt, taken}
 use Rattle.icbmsg.specs.Endpoints.{someEndpoint, boundAt}
 use Rattle.icbmsg.specs.Ends.{withHeld}
@@ -23,17 +23,7 @@ answer-pick false t u r = refl
 
 -- kind 0
 abbrev pub received : End → ℕ → ℕ → ℕ → Outcome
-received e a b k =
-    record {
-      number = 0;
-      values = a ∷ b ∷ k ∷ [];
-      begin = blockAt (e .rx) b + 4;
-      size = k;
-      tx = [];
-      rx = [];
-      buffer = [];
-      next = withHeld e (taken (e .held) ReceivedData b (blocksFor (e .rx) k) a k);
-    }
+received e a b k = accepted (withHeld e (taken (e .held) ReceivedData b (blocksFor (e .rx) k) a k)) (a ∷ b ∷ k ∷ [])
 
 pub data-flat : (e : End) (a b : ℕ) (r : List ℕ) → answer (dataRule e a b) r ≡
     check (leb a 0xFD) 14 e

@@ -2,10 +2,9 @@
 use Rattle.icbmsg.specs.Rings.{pushOf, startOf, pullRule}
 use Rattle.icbmsg.specs.Messages.{reserveOf, roomOf, sendOf, dropOf, viewOf, doneOf, roomQuestion, viewQuestion}
 use Rattle.icbmsg.specs.Registering.{registerOf}
-use Rattle.icbmsg.specs.Arrivals.{decode, arrivalRule}
+use Rattle.icbmsg.specs.Arrivals.{arrivalRule}
 use Rattle.icbmsg.specs.Calls.{start, push, pull, reserve, room, send, drop, arrival, view, done, register, askRoom, askView, rule, lentReceive, step}
 use Rattle.icbmsg.specs.Theorems.{partOf, ClosedSix}
-use Rattle.icbmsg.proofs.Effects.{plain}
 
 pub closed-six : ClosedSix
 unfolding step rule lentReceive partOf pushOf startOf pullRule reserveOf roomOf sendOf dropOf viewOf doneOf roomQuestion viewQuestion registerOf arrivalRule
@@ -16,7 +15,7 @@ closed-six e (reserve k) h = rw h
 closed-six e (room tx s) h = rw h
 closed-six e (send tx s a k) h = rw h
 closed-six e (drop s) h = rw h
-closed-six e (arrival r m) h = rw (h, plain (decode m))
+closed-six e (arrival r m) h = rw h
 closed-six e (view rx s) h = rw h
 closed-six e (done s) h = rw h
 closed-six e (register tx n) h = rw h

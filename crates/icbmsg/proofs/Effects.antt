@@ -27,7 +27,7 @@ use Rattle.icbmsg.specs.Arrivals.{Decoded, empty, unknownKind, tooShort,
 use Rattle.icbmsg.specs.Calls.{Call, start, push, pull, reserve, room, send, drop, arrival, view, done, register, askRoom, askView, rule, lentReceive, step}
 use Rattle.icbmsg.specs.Reading.{sizeIn, contentAt}
 use Rattle.icbmsg.specs.WellFormed.{leading, blockKind, Live, sentRun, bindingOf}
-use Rattle.icbmsg.specs.Theorems.{noRun, thisRun, freedByDecoded, freesSent, freedByName, freesHeld, Part, no-part, length-part, room-part, view-part, refusedValues, PartIn, partOfDecoded, partOf}
+use Rattle.icbmsg.specs.Theorems.{noRun, thisRun, freedByDecoded, freesSent, freedByName, freesHeld, Part, no-part, length-part, room-part, view-part, refusedValues, PartIn, partOf}
 use Rattle.icbmsg.proofs.LeastBlocks.{blocks-hold, blocks-least}
 use Rattle.icbmsg.proofs.Tables.{Each, every, use-is}
 use Rattle.icbmsg.proofs.RulesRead.{pull-answer}
@@ -361,7 +361,7 @@ fit-run g b k p h f =
     let l = ltb-true b (g .count) h in
     omega (arith, blocks-least g k (g .count - b) (leb-true (k + 4) ((g .count - b) * g .size) f) p)
 
-data-effect : (e : End) (a b : ℕ) (r : List ℕ) → isOpen e ≡ true → Effect noRun noRun e view-part (answer (dataRule e a b) r)
+data-effect : (e : End) (a b : ℕ) (r : List ℕ) → isOpen e ≡ true → Effect noRun noRun e no-part (answer (dataRule e a b) r)
 data-effect e a b r o =
     let k : ℕ = sizeIn e b r in
     let g : Region = e .rx in
@@ -374,7 +374,7 @@ data-effect e a b r o =
     checked (areFree e b k) _ (refl, refl) λ u.
     let m = fit-run g b k p h f in
     let x = blocks-hold g k p in
-    accepts refl o (in-blocks g b (blocksFor g k) k m x)
+    accepts refl o (refl, refl)
     (keeps (e .endpoints) (receives b (blocksFor g k) a k (le-leb (k + 4) (blocksFor g k * g .size) x) u (blocks-one g k p) m) refl))
 
 release-effect : (e : End) (b : ℕ) → isOpen e ≡ true → Effect (thisRun b) noRun e no-part (releaseOf e b)
@@ -428,7 +428,7 @@ bound-effect e a b r o =
     checked (areFree e b k) _ (refl, refl) λ u.
     named-effect e a b (blocksFor g k) (nameIn (min k 32) (contentAt e b) r) o u (blocks-one g k p) (fit-run g b k p h f))
 
-decoded-effect : (e : End) (l : Decoded) (r : List ℕ) → isOpen e ≡ true → Effect (freedByDecoded l) noRun e (partOfDecoded l) (answer (decodedRule e l) r)
+decoded-effect : (e : End) (l : Decoded) (r : List ℕ) → isOpen e ≡ true → Effect (freedByDecoded l) noRun e no-part (answer (decodedRule e l) r)
 decoded-effect e empty r o = refuses _ refl
 decoded-effect e unknownKind r o = refuses _ refl
 decoded-effect e tooShort r o = refuses _ refl
@@ -437,18 +437,9 @@ decoded-effect e (dataReleased b) r o = release-effect e b o
 decoded-effect e (bindingSent a b) r o = bound-effect e a b r o
 decoded-effect e (bindingReleased a b) r o = bindingReleased-effect e a b o
 
-pub plain : (l : Decoded) → refusedValues (partOfDecoded l) ≡ []
-plain empty = refl
-plain unknownKind = refl
-plain tooShort = refl
-plain (dataSent a b) = refl
-plain (dataReleased b) = refl
-plain (bindingSent a b) = refl
-plain (bindingReleased a b) = refl
-
-arrival-effect : (e : End) (w : Bool) (l : Decoded) (r : List ℕ) → (w ≡ true → isOpen e ≡ true) → Effect (freedByDecoded l) noRun e (partOfDecoded l) (answer (guard w 6 e (decodedRule e l)) r)
+arrival-effect : (e : End) (w : Bool) (l : Decoded) (r : List ℕ) → (w ≡ true → isOpen e ≡ true) → Effect (freedByDecoded l) noRun e no-part (answer (guard w 6 e (decodedRule e l)) r)
 arrival-effect e true l r h = decoded-effect e l r (h refl)
-arrival-effect e false l r h = plainly _ (plain l, refl)
+arrival-effect e false l r h = refuses _ refl
 
 -- ---- each call
 

@@ -52,16 +52,7 @@ dataRule e a b =
     (readEach (headerAt e b) (λ h. let k : ℕ = fromLittleEndian h in
     guard (fitsArea e b k) 17 e
     (guard (areFree e b k) 18 e
-    (gives (record {
-      number = 0;
-      values = a ∷ b ∷ k ∷ [];
-      begin = blockAt (e .rx) b + 4;
-      size = k;
-      tx = [];
-      rx = [];
-      buffer = [];
-      next = withHeld e (taken (e .held) ReceivedData b (blocksFor (e .rx) k) a k);
-    })))))))
+    (gives (accepted (withHeld e (taken (e .held) ReceivedData b (blocksFor (e .rx) k) a k)) (a ∷ b ∷ k ∷ []))))))))
 
 unfoldable pub releaseOf : End → ℕ → Outcome
 releaseOf e b =

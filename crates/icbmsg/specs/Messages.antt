@@ -3,7 +3,7 @@ use Prim.Native.Nat.{ℕ, _+_, _-_, _*_}
 use mathlib.Core.List.{List, [], _∷_}
 use lib.Dec.{leb}
 use Rattle.wire.specs.Bytes.{littleEndian, straight, writes}
-use Rattle.icbmsg.specs.Outcome.{Outcome, accepted, placed, check}
+use Rattle.icbmsg.specs.Outcome.{Outcome, accepted, written, placed, check}
 use Rattle.icbmsg.specs.Tables.{entry, starts, startsData, freed, taken, blocksFor, blockAt, freeRun}
 use Rattle.icbmsg.specs.Endpoints.{boundAt, someEndpoint}
 use Rattle.icbmsg.specs.Ends.{isOpen, whole, foundOr, withSent, withHeld}
@@ -29,16 +29,8 @@ sendOf e n s a k =
     (check (starts Reserved (e .tx) (e .sent) s) 25 e
     (check (someEndpoint (boundAt a) (e .endpoints)) 15 e
     (check (leb (k + 4) (entry (e .sent) s .count * e .tx .size)) 23 e
-    (record {
-      number = 0;
-      values = 0 ∷ a ∷ s ∷ [];
-      begin = 0;
-      size = 0;
-      tx = writes (straight (blockAt (e .tx) s)) (littleEndian 4 k);
-      rx = [];
-      buffer = [];
-      next = withSent e (taken (freed (e .sent) s (entry (e .sent) s .count)) SentData s (blocksFor (e .tx) k) a k);
-    }))))
+    (written (withSent e (taken (freed (e .sent) s (entry (e .sent) s .count)) SentData s (blocksFor (e .tx) k) a k))
+    (0 ∷ a ∷ s ∷ []) (writes (straight (blockAt (e .tx) s)) (littleEndian 4 k))))))
 
 unfoldable pub dropOf : End → ℕ → Outcome
 dropOf e s =

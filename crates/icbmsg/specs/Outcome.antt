@@ -28,9 +28,12 @@ refused e n = refusedWith [] e n
 abbrev pub ringRefused : End → ℕ → Outcome
 ringRefused e n = refusedWith (0 ∷ []) e n
 
--- accepted, with values alone; and with a place alone
+-- accepted, with values alone; with what is written to the transmit region; and with a place
 abbrev pub accepted : End → List ℕ → Outcome
 accepted e vs = record { number = 0; values = vs; begin = 0; size = 0; tx = []; rx = []; buffer = []; next = e }
+
+abbrev pub written : End → List ℕ → List (ℕ × ℕ) → Outcome
+written e vs ws = record { number = 0; values = vs; begin = 0; size = 0; tx = ws; rx = []; buffer = []; next = e }
 
 abbrev pub placed : End → ℕ → ℕ → Outcome
 placed e b n = record { number = 0; values = []; begin = b; size = n; tx = []; rx = []; buffer = []; next = e }

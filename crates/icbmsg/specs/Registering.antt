@@ -6,7 +6,7 @@ use lib.Dec.{leb}
 use lib.ListN.{length, getD, set}
 use Rattle.wire.specs.Choice.{pick}
 use Rattle.wire.specs.Bytes.{littleEndian, straight, writes}
-use Rattle.icbmsg.specs.Outcome.{Outcome, accepted, check}
+use Rattle.icbmsg.specs.Outcome.{Outcome, accepted, written, check}
 use Rattle.icbmsg.specs.Tables.{Search, nowhere, foundAt, freed, taken, blocksFor, blockAt, freeRun}
 use Rattle.icbmsg.specs.Endpoints.{paddedName, noBinding, isUnused, at, registered, holds, endpointAt, bindingAt, someEndpoint, unusedFrom, goodName}
 use Rattle.icbmsg.specs.Ends.{whole, foundOr, changed}
@@ -24,16 +24,9 @@ become e i s a n = set (e .endpoints) i (record { stage = s; address = a; name =
 -- the initiator's: run s of b blocks
 abbrev pub announcement : End → List ℕ → ℕ → ℕ → ℕ → ℕ → Outcome
 announcement e n i a b s =
-    record {
-      number = 0;
-      values = 2 ∷ a ∷ s ∷ [];
-      begin = 0;
-      size = 0;
-      tx = writes (straight (blockAt (e .tx) s)) (littleEndian 4 (length n + 1) ++ n ++ (0 ∷ []));
-      rx = [];
-      buffer = [];
-      next = changed e (e .write) (e .read) (taken (e .sent) SentBinding s b a (length n + 1)) (e .held) (become e i Waiting a n) (e .bindings);
-    }
+    written
+    (changed e (e .write) (e .read) (taken (e .sent) SentBinding s b a (length n + 1)) (e .held) (become e i Waiting a n) (e .bindings))
+    (2 ∷ a ∷ s ∷ []) (writes (straight (blockAt (e .tx) s)) (littleEndian 4 (length n + 1) ++ n ++ (0 ∷ [])))
 
 -- the follower's, where stored binding b (number j) has the name
 abbrev pub boundToStored : End → List ℕ → ℕ → ℕ → Binding → Outcome

@@ -6,7 +6,7 @@ use Rattle.wire.specs.Choice.{pick}
 use Rattle.wire.specs.Reads.{gives, unless, andThen}
 use Rattle.icmsg.specs.Rules.{Outcome as RingOutcome, Answer, refused as ringNo, accepted as ringYes, pushRule as ringPush, startRule as ringStart, pullRule as ringPull}
 use Rattle.icmsg.specs.declared.Ring.{Ring}
-use Rattle.icbmsg.specs.Outcome.{Outcome, ringRefused, Rule}
+use Rattle.icbmsg.specs.Outcome.{Outcome, ringRefused, written, Rule}
 use Rattle.icbmsg.specs.Ends.{whole, withWrite, withRead}
 use Rattle.icbmsg.specs.declared.Region.{Region}
 use Rattle.icbmsg.specs.declared.End.{End}
@@ -18,7 +18,7 @@ ringOf e g = record { begin = g .base; align = e .align; size = g .ring }
 -- what the ring answered on the transmit side: its writes ws, and the end's own write index moved on
 abbrev pub pushOutcome : End → List (ℕ × ℕ) → Answer → Outcome
 pushOutcome e ws (ringNo n) = ringRefused e n
-pushOutcome e ws (ringYes k i) = record { number = 0; values = k ∷ []; begin = 0; size = 0; tx = ws; rx = []; buffer = []; next = withWrite e i }
+pushOutcome e ws (ringYes k i) = written (withWrite e i) (k ∷ []) ws
 
 -- and on the receive side
 abbrev pub pullOutcome : End → List (ℕ × ℕ) → List (ℕ × ℕ) → Answer → Outcome

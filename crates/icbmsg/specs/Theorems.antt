@@ -53,15 +53,6 @@ PartIn e length-part o = (o .begin ≡ 0) × (o .size ≡ 0)
 PartIn e room-part o = InBlocks (e .tx) o
 PartIn e view-part o = InBlocks (e .rx) o
 
-abbrev pub partOfDecoded : Decoded → Part
-partOfDecoded empty = no-part
-partOfDecoded unknownKind = no-part
-partOfDecoded tooShort = no-part
-partOfDecoded (dataSent a b) = view-part
-partOfDecoded (dataReleased b) = no-part
-partOfDecoded (bindingSent a b) = no-part
-partOfDecoded (bindingReleased a b) = no-part
-
 unfoldable pub partOf : Call → Part
 partOf (start tx) = length-part
 partOf (push tx c) = length-part
@@ -70,7 +61,7 @@ partOf (reserve k) = no-part
 partOf (room tx s) = room-part
 partOf (send tx s a k) = no-part
 partOf (drop s) = no-part
-partOf (arrival rx m) = partOfDecoded (decode m)
+partOf (arrival rx m) = no-part
 partOf (view rx s) = view-part
 partOf (done s) = no-part
 partOf (register tx n) = no-part
@@ -110,8 +101,8 @@ OpenExactly = (o : Opening) (cs : List Call) → isOpen (left (opening o .end) c
 
 -- ---- demand 1: parts lie inside
 
--- The part that an accepted call hands out lies inside its region's blocks: a room's in the transmit region, a view's and a
--- delivered message's in the receive region. Every other call hands out none.
+-- The part that an accepted call hands out lies inside its region's blocks: a room's in the transmit region, a view's in the receive
+-- region. Every other call hands out none.
 abbrev pub PartsInside : Type 0
 PartsInside = (e : End) (c : Call) → step e c .number ≡ 0 → PartIn e (partOf c) (step e c)
 
