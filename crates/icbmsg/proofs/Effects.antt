@@ -174,12 +174,12 @@ blocks-one g k h = go (blocksFor g k) (blocks-hold g k h)
 -- ---- runs
 
 -- what a passed test of a start says
-record Run (g : Region) (t : List Entry) (s : ℕ) (u : Use) : Type 0 where
+pub record Run (g : Region) (t : List Entry) (s : ℕ) (u : Use) : Type 0 where
   use-is-it : entry t s .usage ≡ u
   one : 1 ≤ entry t s .count
-  ends : s + entry t s .count ≤ g .count
+  pub ends : s + entry t s .count ≤ g .count
 
-run-of : (u : Use) (g : Region) (t : List Entry) (s : ℕ) → starts u g t s ≡ true → Run g t s u
+pub run-of : (u : Use) (g : Region) (t : List Entry) (s : ℕ) → starts u g t s ≡ true → Run g t s u
 run-of u g t s h =
     let w = every (inUse u t s ∷ lies g s (entry t s .count) ∷ []) h in
     let z = every (ltb s (g .count) ∷ leb 1 (entry t s .count) ∷ leb (s + entry t s .count) (g .count) ∷ []) (w .1 .0) in
@@ -189,7 +189,7 @@ live : {g : Region} {t : List Entry} {s : ℕ} {u : Use} → Run g t s u → blo
 live r h = rw (r .use-is-it) h
 
 -- the place of n blocks at s
-in-blocks : (g : Region) (s n x : ℕ) → s + n ≤ g .count → x + 4 ≤ n * g .size → (g .blocks ≤ blockAt g s + 4) × (blockAt g s + 4 + x ≤ g .blocks + g .count * g .size)
+pub in-blocks : (g : Region) (s n x : ℕ) → s + n ≤ g .count → x + 4 ≤ n * g .size → (g .blocks ≤ blockAt g s + 4) × (blockAt g s + 4 + x ≤ g .blocks + g .count * g .size)
 in-blocks g s n x h k = let m = mul-le-mul-right (g .size) h in omega arith
 
 -- ---- each rule
@@ -234,7 +234,7 @@ pull-effect e r b =
     (read-effect e (whole e (e .rx) (length r)) (o .region) (o .buffer) (o .answer) (whole-open e (e .rx) (length r))
     (λ n h. refusal-numbers .pull (length r) g (e .read) b r n h) (λ k i h. indexes-in-rule .pull (length r) g (e .read) b r k i h))
 
-size-pos : (e : End) → isOpen e ≡ true → (0 < e .tx .size) × (0 < e .rx .size)
+pub size-pos : (e : End) → isOpen e ≡ true → (0 < e .tx .size) × (0 < e .rx .size)
 size-pos e o = let z = sound e o in omega (arith, leb-true)
 
 -- a run of as many blocks as K needs

@@ -17,7 +17,7 @@ use Rattle.icbmsg.specs.declared.Stage.the-variants.{Bound}
 use Rattle.icbmsg.specs.declared.Endpoint.{Endpoint}
 use Rattle.icbmsg.specs.declared.End.{End}
 
--- what the first three bytes say
+-- "Only the first three bytes are used." "Empty: 12. First byte above 3: 13. Known kind with under three bytes: 12"
 pub data Decoded : Type 0 where
   empty unknownKind tooShort : Decoded
   dataSent : ℕ → ℕ → Decoded
@@ -44,6 +44,7 @@ fitsArea e b k = leb (k + 4) ((e .rx .count - b) * e .rx .size)
 abbrev pub areFree : End → ℕ → ℕ → Bool
 areFree e b k = allFree (e .held) b (blocksFor (e .rx) k)
 
+-- kind 0: "14, 15, 16, 17, 18"; "start, count and K recorded". "The size is read once, at arrival"
 unfoldable pub dataRule : End → ℕ → ℕ → Rule
 dataRule e a b =
     guard (leb a 0xFD) 14 e
@@ -54,11 +55,12 @@ dataRule e a b =
     (guard (areFree e b k) 18 e
     (gives (accepted (withHeld e (taken (e .held) ReceivedData b (blocksFor (e .rx) k) a k)) (a ∷ b ∷ k ∷ []))))))))
 
+-- kind 1: "16, 25"; "frees a sent data message". "A partner's release frees the count recorded privately"
 unfoldable pub releaseOf : End → ℕ → Outcome
 releaseOf e b =
     check (ltb b (e .tx .count)) 16 e
     (check (starts SentData (e .tx) (e .sent) b) 25 e
-    ((accepted (withSent e (freed (e .sent) b (entry (e .sent) b .count))) [])))
+    (accepted (withSent e (freed (e .sent) b (entry (e .sent) b .count))) []))
 
 -- the waiting endpoint with the address is bound
 abbrev pub boundNow : List Endpoint → ℕ → Search → List Endpoint
@@ -68,17 +70,18 @@ boundNow ps a (foundAt i) = set ps i (record { stage = Bound; address = a; name 
 abbrev pub waitingAt : ℕ → Endpoint → Bool
 waitingAt a p = at isWaiting p && eqb (p .address) a
 
+-- kind 3: "14, 16, 25"; "frees a sent binding of that address; its endpoint is bound"
 unfoldable pub releasedBoundOf : End → ℕ → ℕ → Outcome
 releasedBoundOf e a b =
     check (leb a 0xFD) 14 e
     (check (ltb b (e .tx .count)) 16 e
     (check (starts SentBinding (e .tx) (e .sent) b && eqb (entry (e .sent) b .address) a) 25 e
-    ((accepted
+    (accepted
     (changed e (e .write) (e .read) (freed (e .sent) b (entry (e .sent) b .count)) (e .held)
     (boundNow (e .endpoints) a (endpointAt (waitingAt a) (e .endpoints))) (e .bindings))
-    []))))
+    [])))
 
--- a binding of n blocks is stored
+-- "else name, address, start and count are stored, not K, and its blocks are held": n blocks, at place j
 abbrev pub bindingStored : End → ℕ → ℕ → ℕ → List ℕ → ℕ → Outcome
 bindingStored e a b n name j =
     accepted
@@ -86,30 +89,32 @@ bindingStored e a b n name j =
     (set (e .bindings) j (record { stored = true; address = a; start = b; count = n; name = paddedName name })))
     []
 
+-- "If a waiting endpoint has the name, it is bound with the same answer"
 abbrev pub boundTo : End → ℕ → ℕ → ℕ → List ℕ → Search → Outcome
 boundTo e a b n name nowhere = foundOr 22 e (bindingStored e a b n name) (bindingAt (λ x. not (x .stored)) (e .bindings))
 boundTo e a b n name (foundAt i) =
-    (accepted (changed e (e .write) (e .read) (e .sent) (e .held) (become e i Bound a name) (e .bindings)) (3 ∷ a ∷ b ∷ []))
+    accepted (changed e (e .write) (e .read) (e .sent) (e .held) (become e i Bound a name) (e .bindings)) (3 ∷ a ∷ b ∷ [])
 
--- with its name
+-- 20, 21, 22, with the name
 unfoldable pub boundNamed : End → ℕ → ℕ → ℕ → List ℕ → Outcome
 boundNamed e a b n name =
     check (leb 1 (length name)) 20 e
     (check (not (someEndpoint (clashes a name) (e .endpoints)) && not (someBinding (clashesStored a name) (e .bindings))) 21 e
     (boundTo e a b n name (endpointAt (waitingFor name) (e .endpoints))))
 
--- the bytes from p on, up to the first zero of at most n bytes; 20 where none is zero
+-- "name ends at its first zero byte inside K, among its first 32 bytes": of at most n bytes from p on; 20 where none is zero
 abbrev pub upToZero : End → ℕ → ℕ → (List ℕ → Rule) → Rule
 upToZero e zero p k = gives (refused e 20)
 upToZero e (suc n) p k = reads p (λ c. pick (eqb c 0) (k []) (upToZero e n (suc p) (λ cs. k (c ∷ cs))))
 
--- with its K
+-- 17, 18, with K
 unfoldable pub boundSized : End → ℕ → ℕ → ℕ → Rule
 boundSized e a b k =
     guard (fitsArea e b k) 17 e
     (guard (areFree e b k) 18 e
     (upToZero e (min k 32) (blockAt (e .rx) b + 4) (λ name. gives (boundNamed e a b (blocksFor (e .rx) k) name))))
 
+-- kind 2: "19, 14, 16, 17, 18, 20, 21, 22"
 unfoldable pub boundRule : End → ℕ → ℕ → Rule
 boundRule e a b =
     guard (not (e .initiator)) 19 e

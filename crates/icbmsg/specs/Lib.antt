@@ -1,3 +1,4 @@
+pub mod Answers
 pub mod Outcome
 pub mod Tables
 pub mod Endpoints
@@ -11,6 +12,7 @@ pub mod Calls
 pub mod Reading
 pub mod WellFormed
 pub mod Theorems
+pub mod Writes
+pub mod Names
 pub mod NewerPartner
 pub mod BenchCases
-pub mod Names

@@ -21,33 +21,37 @@ use Rattle.icbmsg.specs.declared.End.{End}
 abbrev pub become : End → ℕ → Stage → ℕ → List ℕ → List Endpoint
 become e i s a n = set (e .endpoints) i (record { stage = s; address = a; name = paddedName n })
 
--- the initiator's: run s of b blocks
+-- "The initiator .. writes header, name and zero, answers 02 address start, and waits until kind 3": run s of b blocks
 abbrev pub announcement : End → List ℕ → ℕ → ℕ → ℕ → ℕ → Outcome
 announcement e n i a b s =
     written
     (changed e (e .write) (e .read) (taken (e .sent) SentBinding s b a (length n + 1)) (e .held) (become e i Waiting a n) (e .bindings))
     (2 ∷ a ∷ s ∷ []) (writes (straight (blockAt (e .tx) s)) (littleEndian 4 (length n + 1) ++ n ++ (0 ∷ [])))
 
--- the follower's, where stored binding b (number j) has the name
+-- "unless a stored binding has the name: then it is bound to that address, the stored binding is forgotten, its blocks are freed, and it
+-- answers 03 address start": stored binding b, at place j
 abbrev pub boundToStored : End → List ℕ → ℕ → ℕ → Binding → Outcome
 boundToStored e n i j b =
     accepted
     (changed e (e .write) (e .read) (e .sent) (freed (e .held) (b .start) (b .count)) (become e i Bound (b .address) n) (set (e .bindings) j noBinding))
     (3 ∷ b .address ∷ b .start ∷ [])
 
+-- "The follower waits"
 abbrev pub waits : End → List ℕ → ℕ → Outcome
 waits e n i = accepted (changed e (e .write) (e .read) (e .sent) (e .held) (become e i Waiting 0 n) (e .bindings)) []
 
 abbrev pub followed : End → List ℕ → ℕ → Search → Outcome
-followed e n i nowhere = (waits e n i)
-followed e n i (foundAt j) = (boundToStored e n i j (getD (e .bindings) j noBinding))
+followed e n i nowhere = waits e n i
+followed e n i (foundAt j) = boundToStored e n i j (getD (e .bindings) j noBinding)
 
+-- "gives the lowest unused address, then reserves (23, 24)"
 unfoldable pub initiates : End → List ℕ → ℕ → Outcome
 initiates e n i =
     check (leb (blocksFor (e .tx) (length n + 1)) (e .tx .count)) 23 e
-    (foundOr 24 e (λ s. (announcement e n i (unusedFrom 8 0 (e .endpoints)) (blocksFor (e .tx) (length n + 1)) s))
+    (foundOr 24 e (λ s. announcement e n i (unusedFrom 8 0 (e .endpoints)) (blocksFor (e .tx) (length n + 1)) s)
     (freeRun (e .tx) (e .sent) (blocksFor (e .tx) (length n + 1))))
 
+-- "Register checks 20, 21, 22": l bytes are lent, the name is n
 unfoldable pub registerOf : End → ℕ → List ℕ → Outcome
 registerOf e l n =
     check (whole e (e .tx) l) 6 e

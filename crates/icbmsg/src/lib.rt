@@ -1,4 +1,5 @@
-// The state of one end of the link (000), as declared types.
+// One end of the link (000): its state, and what its calls answer, as declared types.
+use refusal::Refusal;
 
 // What a block of a region is in use for. Only the first block of a run says more than Inside.
 pub enum Use {
@@ -76,4 +77,17 @@ impl End {
     pub const BINDINGS: usize = 8;
 
     pub const LONGEST_NAME: usize = 31;
+}
+
+// What a call answers, beside the end that it leaves. Ring calls answer as the ring does.
+pub enum Answer {
+    // Accepted, with nothing more to say.
+    Accepted,
+    // A reservation: its first block, and how many.
+    Run { start: u32, count: u32 },
+    // A control message that is to be pushed: its three bytes.
+    Control { kind: u8, address: u8, block: u8 },
+    // A data message that has arrived: its endpoint's address, its first block and its length.
+    Delivered { address: u8, block: u8, length: u32 },
+    Refused(Refusal),
 }

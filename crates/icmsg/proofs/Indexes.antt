@@ -29,7 +29,7 @@ pub record PushPassed (n : ℕ) (g : Ring) (r w k : ℕ) (o : Outcome) : Type 0 
   pub room : HasRoom (g .size) r w k
   pub is : passed (pushNumber n g r w k) o refusal ≡ o
 
-push-checks : (n : ℕ) (g : Ring) (r w k : ℕ) → pushNumber n g r w k ≡ 0 → (isSound n g w ≡ true) × (roomNumber (g .size) r w k ≡ 0)
+pub push-checks : (n : ℕ) (g : Ring) (r w k : ℕ) → pushNumber n g r w k ≡ 0 → (isSound n g w ≡ true) × (roomNumber (g .size) r w k ≡ 0)
 unfolding pushNumber
 push-checks n g r w k e = check-passed (isSound n g w) 6 (roomNumber (g .size) r w k) (omega arith) e
 

@@ -33,7 +33,7 @@ size-some : {n : ℕ} {g : Ring} {i : ℕ} → Sound n g i → 0 < g .size
 size-some s = omega (arith, s .below)
 
 -- and inside the region
-data-inside : (n : ℕ) (g : Ring) (o i j : ℕ) → Sound n g o → from g i j < n
+pub data-inside : (n : ℕ) (g : Ring) (o i j : ℕ) → Sound n g o → from g i j < n
 data-inside n g o i j s = omega (arith, s .inside, mod-lt (i + j) (size-some s))
 
 -- the place at the write index w is that at the read index r, as many bytes further on as are used

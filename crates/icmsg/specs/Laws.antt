@@ -4,7 +4,7 @@ use mathlib.Core.Bool.{true}
 use mathlib.Core.Path.{_≡_}
 use mathlib.Core.List.{List, [], _∷_}
 use lib.ListN.{length, getD, take}
-use Rattle.wire.specs.Bytes.{straight, bytes, writes, wrote}
+use Rattle.wire.specs.Bytes.{straight, bytes, writes, wrote, Inside}
 use Rattle.wire.specs.Reads.{answer}
 use Rattle.icmsg.specs.Ring.{readIndexAt, dataAt, from, indexAt, inRule, used, packetLength, behind}
 use Rattle.icmsg.specs.Rules.{Outcome, refused, accepted, pushRule, startRule, takenWrites, pullRule}
@@ -65,3 +65,10 @@ RoundTrip =
     (s : List ℕ) (g : Ring) (w : ℕ) (c : List ℕ) (k i b : ℕ) → g .size < 4294967296 → pushRule s g w c .answer ≡ accepted k i →
     answer (pullRule (length s) g w b) (after s (pushRule s g w c))
     ≡ record { answer = accepted (length c) i; region = takenWrites g w (length c); buffer = writes (straight 0) (take b c) }
+
+-- Every write lies inside its slice: the region, or the caller's buffer of b bytes. Push and start write to no buffer.
+pub record WritesInside : Type 0 where
+  pub push : (s : List ℕ) (g : Ring) (w : ℕ) (c : List ℕ) → Inside (length s) (pushRule s g w c .region)
+  pub start : (n : ℕ) (g : Ring) → Inside n (startRule n g .region)
+  pub pull-region : (n : ℕ) (g : Ring) (r b : ℕ) (s : List ℕ) → Inside n (answer (pullRule n g r b) s .region)
+  pub pull-buffer : (n : ℕ) (g : Ring) (r b : ℕ) (s : List ℕ) → Inside b (answer (pullRule n g r b) s .buffer)

@@ -1,5 +1,5 @@
 -- Numbers as bytes, and bytes by their positions in a list.
-use Prim.Native.Nat.{ℕ, zero, suc, _+_, _*_, _/_, _%_}
+use Prim.Native.Nat.{ℕ, zero, suc, _+_, _*_, _/_, _%_, _<_}
 use mathlib.Core.List.{List, [], _∷_}
 use mathlib.Core.Bool.{Bool, true, false, _&&_}
 use lib.Dec.{eqb}
@@ -53,3 +53,8 @@ same [] [] = true
 same [] (y ∷ ys) = false
 same (x ∷ xs) [] = false
 same (x ∷ xs) (y ∷ ys) = eqb x y && same xs ys
+
+-- every one of these writes is at a position below n
+abbrev pub Inside : ℕ → List (ℕ × ℕ) → Type 0
+Inside n [] = Unit {0}
+Inside n (w ∷ ws) = (w .0 < n) × Inside n ws
