@@ -9,9 +9,9 @@ use Rattle.icbmsg.specs.Ends.{isOpen, changed}
 use Rattle.icbmsg.specs.Opening.{opening}
 use Rattle.icbmsg.specs.Messages.{reserveOf}
 use Rattle.icbmsg.specs.Registering.{initiates, registerOf}
-use Rattle.icbmsg.specs.Calls.{rule, lentReceive, step}
+use Rattle.icbmsg.specs.Calls.{rule, lent, step}
 use Rattle.icbmsg.specs.BenchCases.{StarredCases}
 
 pub starred-cases : StarredCases
-unfolding littleEndian writes same isAlignment isBlockCount areBounds roundDown roundUp ringMinimum alignedSize blockSizeOf fitted layout packetLength packet allFree fill lowest blocksFor freeRun unusedFrom goodName isOpen changed opening reserveOf initiates registerOf rule lentReceive step
+unfolding littleEndian writes same isAlignment isBlockCount areBounds roundDown roundUp ringMinimum alignedSize blockSizeOf fitted layout packetLength packet allFree fill lowest blocksFor freeRun unusedFrom goodName isOpen changed opening reserveOf initiates registerOf rule lent step
 starred-cases = refl

@@ -3,11 +3,11 @@ use Rattle.icbmsg.specs.Rings.{pushOf, startOf, pullRule}
 use Rattle.icbmsg.specs.Messages.{reserveOf, roomOf, sendOf, dropOf, viewOf, doneOf, roomQuestion, viewQuestion}
 use Rattle.icbmsg.specs.Registering.{registerOf}
 use Rattle.icbmsg.specs.Arrivals.{arrivalRule}
-use Rattle.icbmsg.specs.Calls.{start, push, pull, reserve, room, send, drop, arrival, view, done, register, askRoom, askView, rule, lentReceive, step}
+use Rattle.icbmsg.specs.Calls.{start, push, pull, reserve, room, send, drop, arrival, view, done, register, askRoom, askView, rule, lent, step}
 use Rattle.icbmsg.specs.Theorems.{partOf, ClosedSix}
 
 pub closed-six : ClosedSix
-unfolding step rule lentReceive partOf pushOf startOf pullRule reserveOf roomOf sendOf dropOf viewOf doneOf roomQuestion viewQuestion registerOf arrivalRule
+unfolding step rule lent partOf pushOf startOf pullRule reserveOf roomOf sendOf dropOf viewOf doneOf roomQuestion viewQuestion registerOf arrivalRule
 closed-six e (start tx) h = rw h
 closed-six e (push tx c) h = rw h
 closed-six e (pull r b) h = rw h

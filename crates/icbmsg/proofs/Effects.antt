@@ -24,10 +24,10 @@ use Rattle.icbmsg.specs.Rings.{ringOf, pushOutcome, pullOutcome, pushOf,
 use Rattle.icbmsg.specs.Messages.{reserveOf, roomOf, sendOf, dropOf, viewOf, doneOf, roomQuestion, viewQuestion}
 use Rattle.icbmsg.specs.Registering.{become, followed, initiates, registerOf}
 use Rattle.icbmsg.specs.Arrivals.{Decoded, empty, unknownKind, tooShort, dataSent, dataReleased, bindingSent, bindingReleased, decode, fitsArea, areFree, releaseOf, boundNow, waitingAt, releasedBoundOf, boundTo, boundNamed, boundRule, decodedRule, arrivalRule, dataRule}
-use Rattle.icbmsg.specs.Calls.{Call, start, push, pull, reserve, room, send, drop, arrival, view, done, register, askRoom, askView, rule, lentReceive, step}
+use Rattle.icbmsg.specs.Calls.{Call, start, push, pull, reserve, room, send, drop, arrival, view, done, register, askRoom, askView, rule, lent, step}
 use Rattle.icbmsg.specs.Reading.{sizeIn, contentAt}
 use Rattle.icbmsg.specs.WellFormed.{leading, blockKind, Live, sentRun, bindingOf}
-use Rattle.icbmsg.specs.Theorems.{noRun, thisRun, freedByDecoded, freesSent, freedByName, freesHeld, Part, no-part, length-part, room-part, view-part, refusedValues, PartIn, partOf}
+use Rattle.icbmsg.specs.Theorems.{noRun, thisRun, decodedFrees, freedByName, freedBy, Part, no-part, length-part, room-part, view-part, refusedValues, PartIn, partOf}
 use Rattle.icbmsg.proofs.LeastBlocks.{blocks-hold, blocks-least}
 use Rattle.icbmsg.proofs.Tables.{Each, every, use-is}
 use Rattle.icbmsg.proofs.RulesRead.{pull-answer}
@@ -428,7 +428,7 @@ bound-effect e a b r o =
     checked (areFree e b k) _ (refl, refl) λ u.
     named-effect e a b (blocksFor g k) (nameIn (min k 32) (contentAt e b) r) o u (blocks-one g k p) (fit-run g b k p h f))
 
-decoded-effect : (e : End) (l : Decoded) (r : List ℕ) → isOpen e ≡ true → Effect (freedByDecoded l) noRun e no-part (answer (decodedRule e l) r)
+decoded-effect : (e : End) (l : Decoded) (r : List ℕ) → isOpen e ≡ true → Effect (decodedFrees l .sent) (decodedFrees l .held) e no-part (answer (decodedRule e l) r)
 decoded-effect e empty r o = refuses _ refl
 decoded-effect e unknownKind r o = refuses _ refl
 decoded-effect e tooShort r o = refuses _ refl
@@ -437,14 +437,14 @@ decoded-effect e (dataReleased b) r o = release-effect e b o
 decoded-effect e (bindingSent a b) r o = bound-effect e a b r o
 decoded-effect e (bindingReleased a b) r o = bindingReleased-effect e a b o
 
-arrival-effect : (e : End) (w : Bool) (l : Decoded) (r : List ℕ) → (w ≡ true → isOpen e ≡ true) → Effect (freedByDecoded l) noRun e no-part (answer (guard w 6 e (decodedRule e l)) r)
+arrival-effect : (e : End) (w : Bool) (l : Decoded) (r : List ℕ) → (w ≡ true → isOpen e ≡ true) → Effect (decodedFrees l .sent) (decodedFrees l .held) e no-part (answer (guard w 6 e (decodedRule e l)) r)
 arrival-effect e true l r h = decoded-effect e l r (h refl)
 arrival-effect e false l r h = refuses _ refl
 
 -- ---- each call
 
-pub effect : (e : End) (c : Call) → Effect (freesSent c) (freesHeld e c) e (partOf c) (step e c)
-unfolding step rule lentReceive partOf freesSent freesHeld arrivalRule
+pub effect : (e : End) (c : Call) → Effect (freedBy e c .sent) (freedBy e c .held) e (partOf c) (step e c)
+unfolding step rule lent partOf freedBy arrivalRule
 effect e (start tx) = start-effect e (length tx)
 effect e (push tx c) = push-effect e tx c
 effect e (pull rx b) = pull-effect e rx (length b)

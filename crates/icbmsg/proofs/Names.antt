@@ -24,7 +24,7 @@ use Rattle.icbmsg.specs.Rings.{ringOf, pushOutcome, pullOutcome, pushOf,
 use Rattle.icbmsg.specs.Messages.{reserveOf, roomOf, sendOf, dropOf, viewOf, doneOf, roomQuestion, viewQuestion}
 use Rattle.icbmsg.specs.Registering.{followed, initiates, registerOf}
 use Rattle.icbmsg.specs.Arrivals.{Decoded, empty, unknownKind, tooShort, dataSent, dataReleased, bindingSent, bindingReleased, decode, fitsArea, areFree, releaseOf, boundNow, waitingAt, releasedBoundOf, boundTo, boundNamed, boundRule, decodedRule, arrivalRule, dataRule}
-use Rattle.icbmsg.specs.Calls.{Call, start, push, pull, reserve, room, send, drop, arrival, view, done, register, askRoom, askView, rule, lentReceive, step}
+use Rattle.icbmsg.specs.Calls.{Call, start, push, pull, reserve, room, send, drop, arrival, view, done, register, askRoom, askView, rule, lent, step}
 use Rattle.icbmsg.specs.Reading.{sizeIn, contentAt}
 use Rattle.icbmsg.specs.WellFormed.{leading, blockKind, Live, bindingOf, IsKept, Separate}
 use Rattle.icbmsg.specs.Theorems.{Reached, opened, called, uses}
@@ -612,7 +612,7 @@ module _ {e : End} (w : Separate e) (v : InvOf e) where
 
   -- each call
   step-good : (c : Call) → Good (step e c)
-  unfolding step rule lentReceive arrivalRule startOf pushOf
+  unfolding step rule lent arrivalRule startOf pushOf
   step-good (start tx) = let o : RingOutcome = ringStart (length tx) (ringOf e (e .tx)) in push-good (whole e (e .tx) (length tx)) (o .region) (o .answer)
   step-good (push tx c) = let o : RingOutcome = ringPush tx (ringOf e (e .tx)) (e .write) c in push-good (whole e (e .tx) (length tx)) (o .region) (o .answer)
   step-good (pull rx b) =

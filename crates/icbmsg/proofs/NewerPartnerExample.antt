@@ -17,7 +17,7 @@ use Rattle.icbmsg.specs.Rings.{pushOf, startOf, pullRule}
 use Rattle.icbmsg.specs.Messages.{viewOf, doneOf}
 use Rattle.icbmsg.specs.Registering.{initiates, registerOf}
 use Rattle.icbmsg.specs.Arrivals.{boundNamed, boundSized, boundRule, arrivalRule, dataRule}
-use Rattle.icbmsg.specs.Calls.{start, pull, arrival, view, done, register, rule, lentReceive, step}
+use Rattle.icbmsg.specs.Calls.{start, pull, arrival, view, done, register, rule, lent, step}
 use Rattle.icbmsg.specs.Reading.{reading, contentAt}
 use Rattle.icbmsg.specs.NewerPartner.{Grown, unchanged, longer, grown, pulls, arrives, views, both, unknown-kind, Item, keep, insert, Allowed}
 use Rattle.icbmsg.specs.BenchCases.{initiator, follower, example, zeros}
@@ -46,7 +46,7 @@ otherStarted = wrote started ((38, 5) ∷ (39, 6) ∷ (40, 7) ∷ (900, 1) ∷ [
 
 -- the binding's own bytes stay
 own-bytes : (i : ℕ) → i < 8 → getD grownBinding (contentAt follower 0 + i) 0 ≡ getD binding (contentAt follower 0 + i) 0
-unfolding binding grownBinding wrote writes littleEndian same isAlignment isBlockCount areBounds roundDown roundUp ringMinimum alignedSize blockSizeOf fitted layout blocksFor allFree fill lowest freeRun unusedFrom goodName isOpen changed opening initiates registerOf rule lentReceive step
+unfolding binding grownBinding wrote writes littleEndian same isAlignment isBlockCount areBounds roundDown roundUp ringMinimum alignedSize blockSizeOf fitted layout blocksFor allFree fill lowest freeRun unusedFrom goodName isOpen changed opening initiates registerOf rule lent step
 own-bytes zero h = refl
 own-bytes (suc zero) h = refl
 own-bytes (suc (suc zero)) h = refl
@@ -58,7 +58,7 @@ own-bytes (suc (suc (suc (suc (suc (suc (suc zero))))))) h = refl
 own-bytes (suc (suc (suc (suc (suc (suc (suc (suc i)))))))) h = absurd (omega arith)
 
 really-grown : Grown follower 0 binding grownBinding
-unfolding binding grownBinding wrote writes littleEndian fromLittleEndian same isAlignment isBlockCount areBounds roundDown roundUp ringMinimum alignedSize blockSizeOf fitted layout blocksFor allFree fill lowest freeRun unusedFrom goodName isOpen changed opening initiates registerOf rule lentReceive step
+unfolding binding grownBinding wrote writes littleEndian fromLittleEndian same isAlignment isBlockCount areBounds roundDown roundUp ringMinimum alignedSize blockSizeOf fitted layout blocksFor allFree fill lowest freeRun unusedFrom goodName isOpen changed opening initiates registerOf rule lent step
 really-grown =
     record {
       lent = refl;
@@ -87,7 +87,7 @@ script =
     ∷ []
 
 script-is-allowed : Allowed follower script
-unfolding script binding grownBinding message otherMessage started otherStarted wrote writes littleEndian fromLittleEndian bytes same isAlignment isBlockCount areBounds roundDown roundUp ringMinimum alignedSize blockSizeOf fitted layout indexAt inRule isSound used packetLength packet contentLength behind roomNumber pushNumber pushWrites ringPush ringStart lookAt lookRule takenWrites takeRule ringPull blocksFor allFree fill lowest freeRun unusedFrom goodName isOpen changed opening pushOf startOf pullRule viewOf doneOf initiates registerOf boundNamed boundSized boundRule dataRule arrivalRule rule lentReceive step reading
+unfolding script binding grownBinding message otherMessage started otherStarted wrote writes littleEndian fromLittleEndian bytes same isAlignment isBlockCount areBounds roundDown roundUp ringMinimum alignedSize blockSizeOf fitted layout indexAt inRule isSound used packetLength packet contentLength behind roomNumber pushNumber pushWrites ringPush ringStart lookAt lookRule takenWrites takeRule ringPull blocksFor allFree fill lowest freeRun unusedFrom goodName isOpen changed opening pushOf startOf pullRule viewOf doneOf initiates registerOf boundNamed boundSized boundRule dataRule arrivalRule rule lent step reading
 script-is-allowed = (
   unknown-kind 200 (lit< tt) (λ _. refl),
   (

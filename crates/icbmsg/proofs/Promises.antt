@@ -16,7 +16,7 @@ use Rattle.icbmsg.specs.Endpoints.{paddedName, holds}
 use Rattle.icbmsg.specs.Ends.{soundEnd, isOpen, changed, withWrite, withRead, withSent, foundOr}
 use Rattle.icbmsg.specs.Opening.{opening}
 use Rattle.icbmsg.specs.Messages.{reserveOf}
-use Rattle.icbmsg.specs.Calls.{Call, rule, lentReceive, step}
+use Rattle.icbmsg.specs.Calls.{Call, rule, lent, step}
 use Rattle.icbmsg.specs.WellFormed.{leading, blockKind, WellFormed, heldRun, bindingOf, Stored}
 use Rattle.icbmsg.specs.Theorems.{refusedValues, Part, PartIn, left, SameNumbers, FreeRun, need, Reserves, too-long, no-room, at-lowest, Refusals, NumbersStay, OpenStays, OpenExactly, PartsInside, NothingAdded, NeedLeast, ReserveSays, NoRoom}
 use Rattle.wire.proofs.Choices.{both}
@@ -159,7 +159,7 @@ need-least e k o =
 
 -- NO ROOM. At an open end exactly one of these is so, and the number says which.
 pub reserves : ReserveSays
-unfolding step rule lentReceive reserveOf freeRun
+unfolding step rule lent reserveOf freeRun
 reserves e k o = rw o (go (leb (need e k) (e .tx .count)) (freeRun (e .tx) (e .sent) (need e k)) refl refl)
   where
     one : 1 ≤ need e k

@@ -17,7 +17,7 @@ use Rattle.icbmsg.specs.Endpoints.{endpointAt, bindingAt, someEndpoint, 
 use Rattle.icbmsg.specs.Ends.{whole, foundOr}
 use Rattle.icbmsg.specs.Rings.{ringOf, pullOutcome, pulled, pullRule}
 use Rattle.icbmsg.specs.Arrivals.{Decoded, empty, unknownKind, tooShort, dataSent, dataReleased, bindingSent, bindingReleased, decode, headerAt, decodedRule, arrivalRule, boundRule, boundSized, boundNamed, upToZero, fitsArea, areFree, boundTo, bindingStored, dataRule}
-use Rattle.icbmsg.specs.Calls.{Call, start, push, pull, reserve, room, send, drop, arrival, view, done, register, askRoom, askView, rule, lentReceive, step}
+use Rattle.icbmsg.specs.Calls.{Call, start, push, pull, reserve, room, send, drop, arrival, view, done, register, askRoom, askView, rule, lent, step}
 use Rattle.icbmsg.specs.Reading.{sizeIn, contentAt, zeroEnded, arrivalReads, reading}
 use Rattle.icbmsg.specs.declared.End.{End}
 use Rattle.wire.proofs.Trees.{answer-unless, answer-readEach, answer-andThen, positionsRead-unless, positionsRead-andThen}
@@ -57,7 +57,7 @@ pull-cases e true g i b r ps o h = rw (number-pulled e (o .region) (o .buffer) (
 pull-cases e false g i b r ps o h = refl
 
 pull-reads : (e : End) (r b : List ℕ) → positionsRead (rule e (pull r b)) r ≡ reading e (pull r b)
-unfolding rule lentReceive step reading
+unfolding rule lent step reading
 pull-reads e r b =
     rw (pull-answer e (length r) (length b) r, pull-asks e (length r) (length b) r)
     (pull-cases e (whole e (e .rx) (length r)) (ringOf e (e .rx)) (e .read) (length b) r _ (answer (ringPull (length r) (ringOf e (e .rx)) (e .read) (length b)) r)
@@ -168,8 +168,8 @@ decoded-reads e false (bindingSent a b) r = refl
 decoded-reads e false (bindingReleased a b) r = refl
 
 -- every rule asks for what the papers say, in this order, and for nothing else
-pub rules-read : (e : End) (c : Call) → positionsRead (rule e c) (lentReceive c) ≡ reading e c
-unfolding rule lentReceive step reading arrivalRule
+pub rules-read : (e : End) (c : Call) → positionsRead (rule e c) (lent c .rx) ≡ reading e c
+unfolding rule lent step reading arrivalRule
 rules-read e (start tx) = refl
 rules-read e (push tx c) = refl
 rules-read e (pull r b) = pull-reads e r b

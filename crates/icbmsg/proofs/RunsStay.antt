@@ -10,7 +10,7 @@ use Rattle.icbmsg.specs.Tables.{entry, allFree, freed, taken, runEntry}
 use Rattle.icbmsg.specs.Ends.{isOpen, changed}
 use Rattle.icbmsg.specs.Calls.{Call, step}
 use Rattle.icbmsg.specs.WellFormed.{blockKind, IsFree, Live, InRun, WellFormed, heldRun, bindingOf, Stored, Separate}
-use Rattle.icbmsg.specs.Theorems.{Part, Reached, called, left, freesSent, freesHeld, SentKept, HeldKept, RunsStay}
+use Rattle.icbmsg.specs.Theorems.{Part, Reached, called, left, freedBy, SentKept, HeldKept, RunsStay}
 use Rattle.icbmsg.proofs.Tables.{clash, Relation, below, first, later, above, relation, one-run, Taken, its-first, its-later, apart, Freed, gone, free-at, freed-view, taken-view, free-law}
 use Rattle.icbmsg.proofs.Effects.{SentChange, takes, frees, trims, HeldChange, nothing, receives, finishes, stores, forgets, EndChange, stays, writes, reads, sends, keeps, Effect, refuses, accepts, sound, effect}
 use Rattle.icbmsg.proofs.Separate.{separate}
@@ -99,8 +99,8 @@ changed-kept {e = e} p (keeps ps h q) w s =
     (λ l d i r. refl, λ l d i r. held-kept (w .held) (w .stored) (omega (arith, leb-true)) h s l d i r)
 
 step-kept : (e : End) (c : Call) → Separate e → (s : ℕ) →
-    (Live (e .sent) s → (step e c .number ≡ 0 → freesSent c s → ⊥) → (i : ℕ) → InRun (e .sent) s i → entry (step e c .next .sent) i ≡ entry (e .sent) i)
-    × (Live (e .held) s → (step e c .number ≡ 0 → freesHeld e c s → ⊥) → (i : ℕ) → InRun (e .held) s i → entry (step e c .next .held) i ≡ entry (e .held) i)
+    (Live (e .sent) s → (step e c .number ≡ 0 → freedBy e c .sent s → ⊥) → (i : ℕ) → InRun (e .sent) s i → entry (step e c .next .sent) i ≡ entry (e .sent) i)
+    × (Live (e .held) s → (step e c .number ≡ 0 → freedBy e c .held s → ⊥) → (i : ℕ) → InRun (e .held) s i → entry (step e c .next .held) i ≡ entry (e .held) i)
 step-kept e c w s = go (effect e c) w
   where
     go : {F G : ℕ → Type 0} {p : Part} {o : Outcome} → Effect F G e p o → Separate e →

@@ -23,8 +23,8 @@ use Rattle.icbmsg.specs.Rings.{ringOf, pushOutcome, pullOutcome, pushOf,
 use Rattle.icbmsg.specs.Messages.{reserveOf, roomOf, sendOf, dropOf, viewOf, doneOf, roomQuestion, viewQuestion}
 use Rattle.icbmsg.specs.Registering.{followed, initiates, registerOf}
 use Rattle.icbmsg.specs.Arrivals.{Decoded, empty, unknownKind, tooShort, dataSent, dataReleased, bindingSent, bindingReleased, releaseOf, releasedBoundOf, boundTo, boundNamed, decodedRule, arrivalRule}
-use Rattle.icbmsg.specs.Calls.{Call, start, push, pull, reserve, room, send, drop, arrival, view, done, register, askRoom, askView, rule, lentReceive, step}
-use Rattle.icbmsg.specs.Writes.{lentTransmit, lentBuffer, WritesInside}
+use Rattle.icbmsg.specs.Calls.{Call, start, push, pull, reserve, room, send, drop, arrival, view, done, register, askRoom, askView, rule, lent, step}
+use Rattle.icbmsg.specs.Theorems.{WritesInside}
 use Rattle.icbmsg.proofs.LeastBlocks.{blocks-hold}
 use Rattle.icbmsg.proofs.RulesRead.{pull-answer, answer-guard}
 use Rattle.icbmsg.proofs.Arrivals.{Name, endless, name, withName, bound-flat, data-flat}
@@ -151,8 +151,8 @@ decoded-within e (bindingReleased a b) r = search (checked, quiet)
 
 -- ---- each call
 
-within : (e : End) (c : Call) → Within (length (lentTransmit c)) (length (lentReceive c)) (length (lentBuffer c)) (step e c)
-unfolding step rule lentTransmit lentReceive lentBuffer startOf pushOf reserveOf roomOf dropOf viewOf doneOf roomQuestion viewQuestion arrivalRule
+within : (e : End) (c : Call) → Within (length (lent c .tx)) (length (lent c .rx)) (length (lent c .buffer)) (step e c)
+unfolding step rule lent startOf pushOf reserveOf roomOf dropOf viewOf doneOf roomQuestion viewQuestion arrivalRule
 within e (start tx) =
     let o : RingOutcome = ringStart (length tx) (ringOf e (e .tx)) in
     write-within e (whole e (e .tx) (length tx)) (o .region) (o .answer) (writes-inside .start (length tx) (ringOf e (e .tx)))

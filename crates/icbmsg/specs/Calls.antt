@@ -41,24 +41,38 @@ rule e (register tx n) = gives (registerOf e (length tx) n)
 rule e (askRoom s n) = gives (roomQuestion e s n)
 rule e (askView s n) = gives (viewQuestion e s n)
 
--- the receive bytes lent to a call
-unfoldable pub lentReceive : Call → List ℕ
-lentReceive (start tx) = []
-lentReceive (push tx c) = []
-lentReceive (pull rx b) = rx
-lentReceive (reserve k) = []
-lentReceive (room tx s) = []
-lentReceive (send tx s a k) = []
-lentReceive (drop s) = []
-lentReceive (arrival rx m) = rx
-lentReceive (view rx s) = rx
-lentReceive (done s) = []
-lentReceive (register tx n) = []
-lentReceive (askRoom s n) = []
-lentReceive (askView s n) = []
+-- the bytes lent to a call: of the regions, and a buffer of the caller's
+pub record Lent : Type 0 where
+  pub tx : List ℕ
+  pub rx : List ℕ
+  pub buffer : List ℕ
+
+abbrev pub lentNone : Lent
+lentNone = record { tx = []; rx = []; buffer = [] }
+
+abbrev pub lentTx : List ℕ → Lent
+lentTx tx = record { tx = tx; rx = []; buffer = [] }
+
+abbrev pub lentRx : List ℕ → List ℕ → Lent
+lentRx rx buffer = record { tx = []; rx = rx; buffer = buffer }
+
+unfoldable pub lent : Call → Lent
+lent (start tx) = lentTx tx
+lent (push tx c) = lentTx tx
+lent (pull rx b) = lentRx rx b
+lent (reserve k) = lentNone
+lent (room tx s) = lentTx tx
+lent (send tx s a k) = lentTx tx
+lent (drop s) = lentNone
+lent (arrival rx m) = lentRx rx []
+lent (view rx s) = lentRx rx []
+lent (done s) = lentNone
+lent (register tx n) = lentTx tx
+lent (askRoom s n) = lentNone
+lent (askView s n) = lentNone
 
 unfoldable pub step : End → Call → Outcome
-step e c = answer (rule e c) (lentReceive c)
+step e c = answer (rule e c) (lent c .rx)
 
 -- a run: each call gets the end as the one before left it
 unfoldable pub run : End → List Call → List Outcome

@@ -12,7 +12,6 @@ pub mod Calls
 pub mod Reading
 pub mod WellFormed
 pub mod Theorems
-pub mod Writes
 pub mod Names
 pub mod NewerPartner
 pub mod BenchCases

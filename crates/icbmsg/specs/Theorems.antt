@@ -5,14 +5,14 @@ use mathlib.Core.Path.{_≡_}
 use mathlib.Core.Logic.{_≢_, _↔_}
 use mathlib.Core.List.{List, [], _∷_}
 use lib.Dec.{eqb}
-use Rattle.wire.specs.Bytes.{same}
+use Rattle.wire.specs.Bytes.{same, Inside}
 use Rattle.icbmsg.specs.Outcome.{Outcome, refusedWith, refused, accepted}
 use Rattle.icbmsg.specs.Tables.{foundAt, entry, starts, startsData, taken, blocksFor, inUse}
 use Rattle.icbmsg.specs.Endpoints.{bindingAt, at, isUnused, someEndpoint, unusedFrom, paddedName, holds}
 use Rattle.icbmsg.specs.Ends.{isOpen, withSent}
 use Rattle.icbmsg.specs.Opening.{Opening, opening}
 use Rattle.icbmsg.specs.Arrivals.{Decoded, empty, unknownKind, tooShort, dataSent, dataReleased, bindingSent, bindingReleased, decode}
-use Rattle.icbmsg.specs.Calls.{Call, start, push, pull, reserve, room, send, drop, arrival, view, done, register, askRoom, askView, step}
+use Rattle.icbmsg.specs.Calls.{Call, start, push, pull, reserve, room, send, drop, arrival, view, done, register, askRoom, askView, lent, step}
 use Rattle.icbmsg.specs.WellFormed.{Live, InRun, IsFree, bindingOf, Separate}
 use lib.ListN.{length}
 use Rattle.icbmsg.specs.declared.Use.the-variants.{Free, Reserved, SentData, SentBinding, ReceivedData}
@@ -99,12 +99,16 @@ ClosedSix = (e : End) (c : Call) → isOpen e ≡ false → step e c ≡ refused
 abbrev pub OpenExactly : Type 0
 OpenExactly = (o : Opening) (cs : List Call) → isOpen (left (opening o .end) cs) ≡ eqb (opening o .number) 0
 
--- ---- demand 1: parts lie inside
+-- ---- demand 1: parts and writes lie inside
 
 -- The part that an accepted call hands out lies inside its region's blocks: a room's in the transmit region, a view's in the receive
 -- region. Every other call hands out none.
 abbrev pub PartsInside : Type 0
 PartsInside = (e : End) (c : Call) → step e c .number ≡ 0 → PartIn e (partOf c) (step e c)
+
+-- every write of every call, at any end, lies inside the slice that it goes to
+abbrev pub WritesInside : Type 0
+WritesInside = (e : End) (c : Call) → Inside (length (lent c .tx)) (step e c .tx) × Inside (length (lent c .rx)) (step e c .rx) × Inside (length (lent c .buffer)) (step e c .buffer)
 
 -- ---- demand 1: live runs share no block
 
@@ -128,64 +132,62 @@ BlocksCovered = (e : End) → Reached e → Covered (e .sent) × Covered (e .hel
 
 -- ---- demand 1: a message's blocks stay its own
 
--- the live transmit run that an accepted call frees or trims, by its start
 abbrev pub noRun : ℕ → Type 0
 noRun s = ⊥
 
 abbrev pub thisRun : ℕ → ℕ → Type 0
 thisRun s x = x ≡ s
 
-abbrev pub freedByDecoded : Decoded → ℕ → Type 0
-freedByDecoded empty = noRun
-freedByDecoded unknownKind = noRun
-freedByDecoded tooShort = noRun
-freedByDecoded (dataSent a b) = noRun
-freedByDecoded (dataReleased b) = thisRun b
-freedByDecoded (bindingSent a b) = noRun
-freedByDecoded (bindingReleased a b) = thisRun b
+-- the live runs that an accepted call frees or trims, by their starts, in the transmit and in the receive blocks
+pub record Frees : Type 1 where
+  pub sent : ℕ → Type 0
+  pub held : ℕ → Type 0
 
-unfoldable pub freesSent : Call → ℕ → Type 0
-freesSent (start tx) = noRun
-freesSent (push tx c) = noRun
-freesSent (pull rx b) = noRun
-freesSent (reserve k) = noRun
-freesSent (room tx s) = noRun
-freesSent (send tx s a k) = thisRun s
-freesSent (drop s) = thisRun s
-freesSent (arrival rx m) = freedByDecoded (decode m)
-freesSent (view rx s) = noRun
-freesSent (done s) = noRun
-freesSent (register tx n) = noRun
-freesSent (askRoom s n) = noRun
-freesSent (askView s n) = noRun
+abbrev pub freesNone : Frees
+freesNone = record { sent = noRun; held = noRun }
 
--- the live receive run that an accepted call frees: of a register, the stored binding that has its name
+abbrev pub freesSent : ℕ → Frees
+freesSent s = record { sent = thisRun s; held = noRun }
+
+abbrev pub freesHeld : (ℕ → Type 0) → Frees
+freesHeld f = record { sent = noRun; held = f }
+
+abbrev pub decodedFrees : Decoded → Frees
+decodedFrees empty = freesNone
+decodedFrees unknownKind = freesNone
+decodedFrees tooShort = freesNone
+decodedFrees (dataSent a b) = freesNone
+decodedFrees (dataReleased b) = freesSent b
+decodedFrees (bindingSent a b) = freesNone
+decodedFrees (bindingReleased a b) = freesSent b
+
+-- of a register, the stored binding that has its name
 abbrev pub freedByName : End → List ℕ → ℕ → Type 0
 freedByName e n x = (j : ℕ) × (bindingAt (holds (e .rx) n) (e .bindings) ≡ foundAt j) × (bindingOf (e .bindings) j .start ≡ x)
 
-unfoldable pub freesHeld : End → Call → ℕ → Type 0
-freesHeld e (start tx) = noRun
-freesHeld e (push tx c) = noRun
-freesHeld e (pull rx b) = noRun
-freesHeld e (reserve k) = noRun
-freesHeld e (room tx s) = noRun
-freesHeld e (send tx s a k) = noRun
-freesHeld e (drop s) = noRun
-freesHeld e (arrival rx m) = noRun
-freesHeld e (view rx s) = noRun
-freesHeld e (done s) = thisRun s
-freesHeld e (register tx n) = freedByName e n
-freesHeld e (askRoom s n) = noRun
-freesHeld e (askView s n) = noRun
+unfoldable pub freedBy : End → Call → Frees
+freedBy e (start tx) = freesNone
+freedBy e (push tx c) = freesNone
+freedBy e (pull rx b) = freesNone
+freedBy e (reserve k) = freesNone
+freedBy e (room tx s) = freesNone
+freedBy e (send tx s a k) = freesSent s
+freedBy e (drop s) = freesSent s
+freedBy e (arrival rx m) = decodedFrees (decode m)
+freedBy e (view rx s) = freesNone
+freedBy e (done s) = freesHeld (thisRun s)
+freedBy e (register tx n) = freesHeld (freedByName e n)
+freedBy e (askRoom s n) = freesNone
+freedBy e (askView s n) = freesNone
 
 -- none of these calls, one after the other, is accepted and frees the run
 abbrev pub SentKept : End → ℕ → List Call → Type 0
 SentKept e s [] = Unit {0}
-SentKept e s (c ∷ cs) = (step e c .number ≡ 0 → freesSent c s → ⊥) × SentKept (step e c .next) s cs
+SentKept e s (c ∷ cs) = (step e c .number ≡ 0 → freedBy e c .sent s → ⊥) × SentKept (step e c .next) s cs
 
 abbrev pub HeldKept : End → ℕ → List Call → Type 0
 HeldKept e s [] = Unit {0}
-HeldKept e s (c ∷ cs) = (step e c .number ≡ 0 → freesHeld e c s → ⊥) × HeldKept (step e c .next) s cs
+HeldKept e s (c ∷ cs) = (step e c .number ≡ 0 → freedBy e c .held s → ⊥) × HeldKept (step e c .next) s cs
 
 -- A message's blocks stay its own, from the accepted call that took them to the accepted call that frees them: whatever calls and
 -- bytes come between, each of its blocks has the entry that it had, so that none is handed out again.
