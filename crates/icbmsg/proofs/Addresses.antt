@@ -9,8 +9,8 @@ use lib.ListN.{length, getD}
 use borrow.Author.Tests.{ltb-true, lt-ltb, le-ltb, eqb-true, eqb-false}
 use Rattle.wire.specs.Choice.{pick}
 use Rattle.icbmsg.specs.Tables.{Search, nowhere, foundAt, isFound}
-use Rattle.icbmsg.specs.Endpoints.{endpointAt, someEndpoint, noEndpoint, at, isUnused, unusedFrom}
-use Rattle.icbmsg.specs.Theorems.{uses, AddressLowest}
+use Rattle.icbmsg.specs.Endpoints.{uses, endpointAt, someEndpoint, noEndpoint, at, isUnused, unusedFrom}
+use Rattle.icbmsg.specs.Theorems.{AddressLowest}
 use Rattle.wire.proofs.Choices.{both}
 use Rattle.icbmsg.proofs.Effects.{first-at}
 use Rattle.icbmsg.specs.declared.Endpoint.{Endpoint}

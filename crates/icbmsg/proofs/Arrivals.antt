@@ -1,5 +1,5 @@
 -- The two arrivals that read receive bytes, as plain equations on the bytes: what a contract's proof cites.
-use Prim.Native.Nat.{ℕ, zero, suc, _+_, min}
+use Prim.Native.Nat.{ℕ, zero, suc, min}
 use mathlib.Core.Bool.{Bool, true, false, not}
 use mathlib.Core.Path.{_≡_, refl, sym, ap, _∙_}
 use mathlib.Core.List.{List, [], _∷_}
@@ -8,7 +8,7 @@ use lib.ListN.{getD}
 use Rattle.wire.specs.Choice.{pick}
 use Rattle.wire.specs.Reads.{gives, answer}
 use Rattle.icbmsg.specs.Outcome.{Outcome, refused, accepted, Rule, check}
-use Rattle.icbmsg.specs.Tables.{blocksFor, blockAt, taken}
+use Rattle.icbmsg.specs.Tables.{blocksFor, taken}
 use Rattle.icbmsg.specs.Endpoints.{someEndpoint, boundAt}
 use Rattle.icbmsg.specs.Ends.{withHeld}
 use Rattle.icbmsg.specs.Arrivals.{boundRule, boundSized, boundNamed, upToZero, fitsArea, areFree, dataRule}

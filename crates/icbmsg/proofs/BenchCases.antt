@@ -2,7 +2,7 @@
 use mathlib.Core.Path.{refl}
 use Rattle.wire.specs.Bytes.{littleEndian, writes, same}
 use Rattle.region.specs.Layout.{isAlignment, isBlockCount, areBounds, roundDown, roundUp, ringMinimum, alignedSize, blockSizeOf, fitted, layout}
-use Rattle.icmsg.specs.Ring.{packetLength, packet}
+use Rattle.icmsg.specs.Ring.{inRule, packetLength, packet}
 use Rattle.icbmsg.specs.Tables.{allFree, fill, lowest, blocksFor, freeRun}
 use Rattle.icbmsg.specs.Endpoints.{unusedFrom, goodName}
 use Rattle.icbmsg.specs.Ends.{isOpen, changed}
@@ -13,5 +13,5 @@ use Rattle.icbmsg.specs.Calls.{rule, lent, step}
 use Rattle.icbmsg.specs.BenchCases.{StarredCases}
 
 pub starred-cases : StarredCases
-unfolding littleEndian writes same isAlignment isBlockCount areBounds roundDown roundUp ringMinimum alignedSize blockSizeOf fitted layout packetLength packet allFree fill lowest blocksFor freeRun unusedFrom goodName isOpen changed opening reserveOf initiates registerOf rule lent step
+unfolding littleEndian writes same isAlignment isBlockCount areBounds roundDown roundUp ringMinimum alignedSize blockSizeOf fitted layout inRule packetLength packet allFree fill lowest blocksFor freeRun unusedFrom goodName isOpen changed opening reserveOf initiates registerOf rule lent step
 starred-cases = refl

@@ -1,6 +1,6 @@
 -- What a call may do to an end: each rule is walked once, and each theorem on lists of calls is then read off.
 use Prim.Native.Nat.{ℕ, zero, suc, _+_, _-_, _*_, _≤_, _<_, min}
-use mathlib.Core.Bool.{Bool, true, false, not, _&&_, false≢true}
+use mathlib.Core.Bool.{Bool, true, false, not, _&&_}
 use mathlib.Core.Path.{_≡_, refl, sym, subst}
 use mathlib.Core.List.{List, [], _∷_}
 use native.Mathlib.Omega.{arith}
@@ -185,7 +185,7 @@ run-of u g t s h =
     let z = every (ltb s (g .count) ∷ leb 1 (entry t s .count) ∷ leb (s + entry t s .count) (g .count) ∷ []) (w .1 .0) in
     record { use-is-it = use-is u (entry t s .usage) (w .0); one = omega (arith, leb-true); ends = omega (arith, leb-true) }
 
-live : {g : Region} {t : List Entry} {s : ℕ} {u : Use} → Run g t s u → blockKind u ≡ leading → Live t s
+pub live : {g : Region} {t : List Entry} {s : ℕ} {u : Use} → Run g t s u → blockKind u ≡ leading → Live t s
 live r h = rw (r .use-is-it) h
 
 -- the place of n blocks at s
@@ -262,7 +262,7 @@ room-effect e n s =
     let z = sound e o in
     let r = run-of Reserved (e .tx) (e .sent) s h in
     let x : ℕ = entry (e .sent) s .count * e .tx .size in
-    let l : 4 ≤ x = omega (arith, mul-le-mul (r .one) (leb-true 4 (e .tx .size) (z .1 .1 .1 .1 .1 .1 .1 .1 .1 .1 .0))) in
+    let l : 4 ≤ x = omega (arith, mul-le-mul (r .one) (leb-true 4 (e .tx .size) (z .1 .1 .1 .1 .1 .1 .1 .1 .1 .1 .1 .1 .0))) in
     accepts refl o (in-blocks (e .tx) s (entry (e .sent) s .count) (x - 4) (r .ends) (omega arith)) stays
 
 send-effect : (e : End) (n s a k : ℕ) → Effect (thisRun s) noRun e no-part (sendOf e n s a k)

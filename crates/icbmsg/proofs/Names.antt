@@ -17,7 +17,7 @@ use Rattle.wire.specs.Bytes.{same}
 use Rattle.icmsg.specs.Rules.{Outcome as RingOutcome, Answer, refused as ringNo, accepted as ringYes, pushRule as ringPush, startRule as ringStart, pullRule as ringPull}
 use Rattle.icbmsg.specs.Outcome.{Outcome, ringRefused, check, guard}
 use Rattle.icbmsg.specs.Tables.{Search, nowhere, foundAt, isFound, firstFrom, entry, isUse, inUse, lies, starts, startsData, freeEntry, runEntry, freed, taken, blocksFor, freeRun}
-use Rattle.icbmsg.specs.Endpoints.{paddedName, noEndpoint, noBinding, at, isUnused, isWaiting, isBound, boundAt, registered, waitingFor, holds, clashes, clashesStored, endpointAt, bindingAt, someEndpoint, someBinding, unusedFrom, goodName}
+use Rattle.icbmsg.specs.Endpoints.{uses, paddedName, noEndpoint, noBinding, at, isUnused, isWaiting, isBound, boundAt, registered, waitingFor, holds, clashes, clashesStored, endpointAt, bindingAt, someEndpoint, someBinding, unusedFrom, goodName}
 use Rattle.icbmsg.specs.Ends.{isOpen, whole, foundOr, changed}
 use Rattle.icbmsg.specs.Opening.{Opening, Opened}
 use Rattle.icbmsg.specs.Rings.{ringOf, pushOutcome, pullOutcome, pushOf, startOf}
@@ -27,7 +27,7 @@ use Rattle.icbmsg.specs.Arrivals.{Decoded, empty, unknownKind, tooShort,
 use Rattle.icbmsg.specs.Calls.{Call, start, push, pull, reserve, room, send, drop, arrival, view, done, register, askRoom, askView, rule, lent, step}
 use Rattle.icbmsg.specs.Reading.{sizeIn, contentAt}
 use Rattle.icbmsg.specs.WellFormed.{leading, blockKind, Live, bindingOf, IsKept, Separate}
-use Rattle.icbmsg.specs.Theorems.{Reached, opened, called, uses}
+use Rattle.icbmsg.specs.Theorems.{Reached, opened, called}
 use Rattle.icbmsg.specs.Names.{endpointOf, isUsed, IsAnnounced, Once, WaitsAlone, NamesKept}
 use Rattle.icbmsg.proofs.LeastBlocks.{blocks-least}
 use Rattle.icbmsg.proofs.Tables.{every, use-is, Taken, its-first, its-later, apart, Freed, gone, freed-live, freed-view, taken-view, free-law}

@@ -1,6 +1,6 @@
 -- The changes of demand 3 are there to be had: a list of calls at a follower with every kind of change, checked to be allowed.
 use Prim.Native.Nat.{ℕ, zero, suc, _+_, _<_}
-use mathlib.Core.Path.{_≡_, refl, sym}
+use mathlib.Core.Path.{_≡_, refl}
 use mathlib.Core.List.{List, [], _∷_}
 use native.Mathlib.Omega.{arith}
 use lib.Dec.{lit<, lit≤}
@@ -46,7 +46,7 @@ otherStarted = wrote started ((38, 5) ∷ (39, 6) ∷ (40, 7) ∷ (900, 1) ∷ [
 
 -- the binding's own bytes stay
 own-bytes : (i : ℕ) → i < 8 → getD grownBinding (contentAt follower 0 + i) 0 ≡ getD binding (contentAt follower 0 + i) 0
-unfolding binding grownBinding wrote writes littleEndian same isAlignment isBlockCount areBounds roundDown roundUp ringMinimum alignedSize blockSizeOf fitted layout blocksFor allFree fill lowest freeRun unusedFrom goodName isOpen changed opening initiates registerOf rule lent step
+unfolding binding grownBinding wrote writes littleEndian same isAlignment isBlockCount areBounds roundDown roundUp ringMinimum alignedSize blockSizeOf fitted layout inRule blocksFor allFree fill lowest freeRun unusedFrom goodName isOpen changed opening initiates registerOf rule lent step
 own-bytes zero h = refl
 own-bytes (suc zero) h = refl
 own-bytes (suc (suc zero)) h = refl
@@ -58,7 +58,7 @@ own-bytes (suc (suc (suc (suc (suc (suc (suc zero))))))) h = refl
 own-bytes (suc (suc (suc (suc (suc (suc (suc (suc i)))))))) h = absurd (omega arith)
 
 really-grown : Grown follower 0 binding grownBinding
-unfolding binding grownBinding wrote writes littleEndian fromLittleEndian same isAlignment isBlockCount areBounds roundDown roundUp ringMinimum alignedSize blockSizeOf fitted layout blocksFor allFree fill lowest freeRun unusedFrom goodName isOpen changed opening initiates registerOf rule lent step
+unfolding binding grownBinding wrote writes littleEndian fromLittleEndian same isAlignment isBlockCount areBounds roundDown roundUp ringMinimum alignedSize blockSizeOf fitted layout inRule blocksFor allFree fill lowest freeRun unusedFrom goodName isOpen changed opening initiates registerOf rule lent step
 really-grown =
     record {
       lent = refl;

@@ -1,16 +1,16 @@
 -- What holds of every call, and of every end reached: refusals, open ends, places, tests that refuse nothing more, no room.
-use Prim.Native.Nat.{ℕ, _+_, _*_, _%_, _≤_, _<_}
+use Prim.Native.Nat.{ℕ, _+_, _*_, _≤_, _<_}
 use mathlib.Core.Bool.{Bool, true, false, _&&_, false≢true}
 use mathlib.Core.Path.{_≡_, refl, sym, ap, _∙_}
 use mathlib.Core.Logic.{_≢_}
 use mathlib.Core.List.{List, [], _∷_}
 use native.Mathlib.Omega.{arith}
-use lib.Dec.{leb, ltb, eqb}
+use lib.Dec.{leb, ltb}
 use lib.ListN.{length}
-use borrow.Author.Tests.{eqb-true, leb-true, leb-false, ltb-true, le-leb, lt-ltb, eq-eqb}
+use borrow.Author.Tests.{leb-true, leb-false, le-leb, lt-ltb}
 use Rattle.wire.specs.Choice.{pick}
 use Rattle.wire.specs.Bytes.{same}
-use Rattle.icbmsg.specs.Outcome.{Outcome, refusedWith, refused, accepted, check}
+use Rattle.icbmsg.specs.Outcome.{Outcome, refusedWith, accepted, check}
 use Rattle.icbmsg.specs.Tables.{all, Search, nowhere, foundAt, entry, isUse, lies, starts, startsData, allFree, taken, freeRun, inUse}
 use Rattle.icbmsg.specs.Endpoints.{paddedName, holds}
 use Rattle.icbmsg.specs.Ends.{soundEnd, isOpen, changed, withWrite, withRead, withSent, foundOr}
@@ -19,8 +19,6 @@ use Rattle.icbmsg.specs.Messages.{reserveOf}
 use Rattle.icbmsg.specs.Calls.{Call, rule, lent, step}
 use Rattle.icbmsg.specs.WellFormed.{leading, blockKind, WellFormed, heldRun, bindingOf, Stored}
 use Rattle.icbmsg.specs.Theorems.{refusedValues, Part, PartIn, left, SameNumbers, FreeRun, need, Reserves, too-long, no-room, at-lowest, Refusals, NumbersStay, OpenStays, OpenExactly, PartsInside, NothingAdded, NeedLeast, ReserveSays, NoRoom}
-use Rattle.wire.proofs.Choices.{both}
-use Rattle.icmsg.specs.Ring.{inRule}
 use Rattle.icbmsg.proofs.LeastBlocks.{blocks-hold, blocks-least}
 use Rattle.icbmsg.proofs.Tables.{each, free-at, all-free, use-is}
 use Rattle.icbmsg.proofs.Effects.{EndChange, writes, sends, keeps, Effect, refuses, accepts, sound, effect, lowest-at, none-lowest, blocks-one, stays, reads}
@@ -61,16 +59,14 @@ numbers-stay e c = go (effect e c)
     go (accepts z o p m) = moved-numbers m
 
 moved-open : {F G : ℕ → Type 0} {e e′ : End} → EndChange F G e e′ → isOpen e ≡ true → isOpen e′ ≡ true
-unfolding changed isOpen inRule
+unfolding changed isOpen
 moved-open stays o = o
 moved-open {e} (writes w h) o =
     let z = sound e o in
-    let i = both (ltb w (e .tx .ring)) (eqb (w % 4) 0) h in
-    each (soundEnd (withWrite e w)) (omega (arith, le-leb, lt-ltb, eq-eqb, leb-true, ltb-true, eqb-true))
+    each (soundEnd (withWrite e w)) (z .0, (z .1 .0, (z .1 .1 .0, (h, z .1 .1 .1 .1))))
 moved-open {e} (reads r h) o =
     let z = sound e o in
-    let i = both (ltb r (e .rx .ring)) (eqb (r % 4) 0) h in
-    each (soundEnd (withRead e r)) (omega (arith, le-leb, lt-ltb, eq-eqb, leb-true, ltb-true, eqb-true))
+    each (soundEnd (withRead e r)) (z .0, (z .1 .0, (z .1 .1 .0, (z .1 .1 .1 .0, (h, z .1 .1 .1 .1 .1)))))
 moved-open (sends ps h q) o = o
 moved-open (keeps ps h q) o = o
 

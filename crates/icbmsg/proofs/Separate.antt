@@ -11,7 +11,7 @@ use lib.Seq.{getD-set-same, getD-set-other}
 use borrow.Author.Tests.{eqb-true, eqb-false, leb-true}
 use Rattle.wire.specs.Choice.{pick}
 use Rattle.icbmsg.specs.Outcome.{Outcome}
-use Rattle.icbmsg.specs.Tables.{entry, freeEntry, runEntry}
+use Rattle.icbmsg.specs.Tables.{entry, freeEntry}
 use Rattle.icbmsg.specs.Endpoints.{noBinding, noEndpoint}
 use Rattle.icbmsg.specs.Ends.{isOpen, changed}
 use Rattle.icbmsg.specs.Opening.{Opening, Opened, opening, region, noRegion, fresh, freshOf, closedWith, txLayout, rxLayout}
@@ -145,9 +145,6 @@ turned : {F : ℕ → Type 0} {c : ℕ} {good : Entry → Bool} {t t′ : List E
 turned {t = t} o b (takes u s n a k su g f l m) = take-law o b u s n a k su g (λ i p q. free-at t s n i f p q) l m
 turned o b (frees s f l) = free-law o b s l
 turned o b (trims u s n a k f l su g h m) = trim-law o b u s n a k l su g h m
-
-stored-good : (g : Region) (n a k : ℕ) → heldRun g (runEntry StoredBinding n a k) ≡ true
-stored-good g n a k = refl
 
 kept-table : {G : ℕ → Type 0} {g : Region} {t t′ : List Entry} {bs bs′ : List Binding} → WellFormed (g .count) (heldRun g) t → Stored t bs → g .count ≤ 256 → HeldChange G g t bs t′ bs′ → WellFormed (g .count) (heldRun g) t′
 kept-table o w b nothing = o

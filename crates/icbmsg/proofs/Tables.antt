@@ -232,6 +232,15 @@ module _ {c s : ℕ} {good : Entry → Bool} {t t′ : List Entry} (o : WellForm
       far (gone p q e) h = rw e refl
       far {j} (apart f e) h = rw e (o .beyond j h)
 
+-- the first block of a run taken
+pub first-entry : {t t′ : List Entry} {x : Entry} {s n : ℕ} → Taken t t′ x s n s → 1 ≤ n → entry t′ s ≡ x
+first-entry {t} {t′} {x} {s} {n} v l = go v refl
+  where
+    go : {j : ℕ} → Taken t t′ x s n j → j ≡ s → entry t′ j ≡ x
+    go (its-first e) q = e
+    go (its-later p q e) r = absurd (omega arith)
+    go (apart p e) r = absurd (p (omega arith) (omega arith))
+
 -- a run x taken of free blocks
 module _ {c s : ℕ} {good : Entry → Bool} {t t′ : List Entry} {x : Entry} (o : WellFormed c good t) (v : (i : ℕ) → Taken t t′ x s (x .count) i)
     (f : (i : ℕ) → s ≤ i → i < s + x .count → IsFree t i) (l : 1 ≤ x .count) where
@@ -245,12 +254,7 @@ module _ {c s : ℕ} {good : Entry → Bool} {t t′ : List Entry} {x : Entry} (
       go (apart p e) h = e
 
   pub taken-first : entry t′ s ≡ x
-  taken-first = go (v s) refl
-    where
-      go : {j : ℕ} → Taken t t′ x s (x .count) j → j ≡ s → entry t′ j ≡ x
-      go (its-first e) q = e
-      go (its-later p q e) r = absurd (omega arith)
-      go (apart p e) r = absurd (p (omega arith) (omega arith))
+  taken-first = first-entry (v s) l
 
   taken-well-formed : length t′ ≡ length t → blockKind (x .usage) ≡ leading → good x ≡ true → s + x .count ≤ c → WellFormed c good t′
   taken-well-formed len u g m =

@@ -6,7 +6,7 @@ use lib.ListN.{replicate}
 use Rattle.region.specs.Layout.{Outcome as Layout, layout}
 use Rattle.icmsg.specs.Ring.{packet}
 use Rattle.icbmsg.specs.Outcome.{Outcome}
-use Rattle.icbmsg.specs.Opening.{Opening, opening}
+use Rattle.icbmsg.specs.Opening.{opening}
 use Rattle.icbmsg.specs.Calls.{reserve, register, step}
 use Rattle.icbmsg.specs.declared.End.{End}
 

@@ -77,10 +77,14 @@ someEndpoint f ps = isFound (endpointAt f ps)
 abbrev pub someBinding : (Binding → Bool) → List Binding → Bool
 someBinding f bs = isFound (bindingAt f bs)
 
+-- endpoint p uses address a
+abbrev pub uses : ℕ → Endpoint → Bool
+uses a p = not (at isUnused p) && eqb (p .address) a
+
 -- the lowest address from a on that no endpoint uses, at most f of them passed over
 unfoldable pub unusedFrom : ℕ → ℕ → List Endpoint → ℕ
 unusedFrom zero a ps = a
-unusedFrom (suc f) a ps = pick (someEndpoint (λ p. not (at isUnused p) && eqb (p .address) a) ps) (unusedFrom f (suc a) ps) a
+unusedFrom (suc f) a ps = pick (someEndpoint (uses a) ps) (unusedFrom f (suc a) ps) a
 
 -- 1 to 31 bytes, none zero
 unfoldable pub goodName : List ℕ → Bool

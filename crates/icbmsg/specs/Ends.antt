@@ -2,7 +2,8 @@
 use Prim.Native.Nat.{ℕ, _+_, _*_, _%_}
 use mathlib.Core.Bool.{Bool, _&&_}
 use mathlib.Core.List.{List, [], _∷_, _++_}
-use lib.Dec.{leb, ltb, eqb}
+use lib.Dec.{leb, eqb}
+use Rattle.icmsg.specs.Ring.{inRule}
 use Rattle.icbmsg.specs.Outcome.{Outcome, refused}
 use Rattle.icbmsg.specs.Tables.{all, Search, nowhere, foundAt}
 use Rattle.icbmsg.specs.declared.Entry.{Entry}
@@ -11,9 +12,9 @@ use Rattle.icbmsg.specs.declared.Binding.{Binding}
 use Rattle.icbmsg.specs.declared.Region.{Region}
 use Rattle.icbmsg.specs.declared.End.{End}
 
--- At alignment a, with its own index i: header, ring data and blocks lie one behind the other inside the region's bytes.
-abbrev pub soundRegion : ℕ → Region → ℕ → List Bool
-soundRegion a g i =
+-- At alignment a, header, ring data and blocks lie one behind the other inside the region's bytes.
+abbrev pub soundRegion : ℕ → Region → List Bool
+soundRegion a g =
     leb 32 (g .ring)
     ∷ eqb (g .ring % 4) 0
     ∷ leb (g .base + (a + 4) + g .ring) (g .blocks)
@@ -22,14 +23,14 @@ soundRegion a g i =
     ∷ leb 1 (g .count)
     ∷ leb (g .count) 256
     ∷ leb 4 (g .size)
-    ∷ ltb i (g .ring)
-    ∷ eqb (i % 4) 0
     ∷ []
 
+-- the alignment, the own indexes and both regions
 abbrev pub soundEnd : End → List Bool
 soundEnd e =
     leb 4 (e .align) ∷ leb (e .align) 256 ∷ eqb (e .align % 4) 0
-    ∷ soundRegion (e .align) (e .tx) (e .write) ++ soundRegion (e .align) (e .rx) (e .read)
+    ∷ inRule (e .tx .ring) (e .write) ∷ inRule (e .rx .ring) (e .read)
+    ∷ soundRegion (e .align) (e .tx) ++ soundRegion (e .align) (e .rx)
 
 -- A closed end, all numbers zero, fails it, and so does every end whose numbers would lead outside its regions.
 unfoldable pub isOpen : End → Bool

@@ -1,6 +1,6 @@
 -- The rules of the calls on messages: reserve, room, send, drop, view, done, and the two questions (01, "Blocks and framing").
 use Prim.Native.Nat.{ℕ, _+_, _-_, _*_}
-use mathlib.Core.List.{List, [], _∷_}
+use mathlib.Core.List.{[], _∷_}
 use lib.Dec.{leb}
 use Rattle.wire.specs.Bytes.{littleEndian, straight, writes}
 use Rattle.icbmsg.specs.Outcome.{Outcome, accepted, written, placed, check}

@@ -70,9 +70,13 @@ lies g s n = all (ltb s (g .count) ∷ leb 1 n ∷ leb (s + n) (g .count) ∷ []
 abbrev pub starts : Use → Region → List Entry → ℕ → Bool
 starts u g t s = all (inUse u t s ∷ lies g s (entry t s .count) ∷ [])
 
+-- the run's blocks hold its header and its length
+abbrev pub holdsLength : Region → Entry → Bool
+holdsLength g x = leb (x .length + 4) (x .count * g .size)
+
 -- received data starts at s. What its run does not hold is none
 abbrev pub startsData : Region → List Entry → ℕ → Bool
-startsData g t s = all (starts ReceivedData g t s ∷ leb (entry t s .length + 4) (entry t s .count * g .size) ∷ [])
+startsData g t s = all (starts ReceivedData g t s ∷ holdsLength g (entry t s) ∷ [])
 
 -- n entries from s on are free
 unfoldable pub allFree : List Entry → ℕ → ℕ → Bool

@@ -1,14 +1,14 @@
 -- What holds of every end, and of every end reached from an opening by any calls with any bytes lent. Proofs: proofs/.
 use Prim.Native.Nat.{ℕ, _+_, _*_, _≤_, _<_}
-use mathlib.Core.Bool.{Bool, true, false, not, _&&_}
+use mathlib.Core.Bool.{true, false, _&&_}
 use mathlib.Core.Path.{_≡_}
 use mathlib.Core.Logic.{_≢_, _↔_}
 use mathlib.Core.List.{List, [], _∷_}
 use lib.Dec.{eqb}
 use Rattle.wire.specs.Bytes.{same, Inside}
 use Rattle.icbmsg.specs.Outcome.{Outcome, refusedWith, refused, accepted}
-use Rattle.icbmsg.specs.Tables.{foundAt, entry, starts, startsData, taken, blocksFor, inUse}
-use Rattle.icbmsg.specs.Endpoints.{bindingAt, at, isUnused, someEndpoint, unusedFrom, paddedName, holds}
+use Rattle.icbmsg.specs.Tables.{foundAt, entry, starts, startsData, runEntry, taken, blocksFor, inUse}
+use Rattle.icbmsg.specs.Endpoints.{bindingAt, at, isUnused, someEndpoint, uses, unusedFrom, paddedName, holds}
 use Rattle.icbmsg.specs.Ends.{isOpen, withSent}
 use Rattle.icbmsg.specs.Opening.{Opening, opening}
 use Rattle.icbmsg.specs.Arrivals.{Decoded, empty, unknownKind, tooShort, dataSent, dataReleased, bindingSent, bindingReleased, decode}
@@ -197,6 +197,12 @@ RunsStay =
     (Live (e .sent) s → SentKept e s cs → (i : ℕ) → InRun (e .sent) s i → entry (left e cs .sent) i ≡ entry (e .sent) i)
     × (Live (e .held) s → HeldKept e s cs → (i : ℕ) → InRun (e .held) s i → entry (left e cs .held) i ≡ entry (e .held) i)
 
+-- A send keeps its reservation: it starts where it did, with as many of its blocks as K needs.
+abbrev pub SendTrims : Type 0
+SendTrims =
+    (e : End) → Reached e → (tx : List ℕ) (s a k : ℕ) → step e (send tx s a k) .number ≡ 0 →
+    (blocksFor (e .tx) k ≤ entry (e .sent) s .count) × (entry (step e (send tx s a k) .next .sent) s ≡ runEntry SentData (blocksFor (e .tx) k) a k)
+
 -- ---- what the tests of total calls add refuses nothing
 
 -- 25 is given by the use alone: the tests that a run lies inside, and holds its data, are passed in every end reached
@@ -211,10 +217,6 @@ abbrev pub NothingAdded : Type 0
 NothingAdded = (e : End) → Reached e → UseDecides e
 
 -- ---- demand 2: the lowest unused address
-
--- endpoint p uses address a
-abbrev pub uses : ℕ → Endpoint → Bool
-uses a p = not (at isUnused p) && eqb (p .address) a
 
 -- what the search gives, of eight endpoints one of which is unused
 abbrev pub AddressLowest : Type 0

@@ -1,11 +1,10 @@
 -- Tables of blocks in order: what it means that live runs lie apart.
-use Prim.Native.Nat.{ℕ, _+_, _*_, _≤_, _<_}
+use Prim.Native.Nat.{ℕ, _+_, _≤_, _<_}
 use mathlib.Core.Bool.{Bool, true, _&&_, _||_}
 use mathlib.Core.Path.{_≡_}
 use mathlib.Core.List.{List}
-use lib.Dec.{leb}
 use lib.ListN.{length, getD}
-use Rattle.icbmsg.specs.Tables.{entry, isUse}
+use Rattle.icbmsg.specs.Tables.{entry, isUse, holdsLength}
 use Rattle.icbmsg.specs.Endpoints.{noBinding}
 use Rattle.icbmsg.specs.declared.Use.{Use}
 use Rattle.icbmsg.specs.declared.Use.the-variants.{Free, Inside, Reserved, SentData, SentBinding, ReceivedData, StoredBinding}
@@ -56,9 +55,6 @@ pub record WellFormed (c : ℕ) (good : Entry → Bool) (t : List Entry) : Type 
 -- ---- an end
 
 -- a run of each table: its use, and a message that it holds
-abbrev pub holdsLength : Region → Entry → Bool
-holdsLength g x = leb (x .length + 4) (x .count * g .size)
-
 abbrev pub sentRun : Region → Entry → Bool
 sentRun g x = isUse Reserved (x .usage) || (isUse SentData (x .usage) || isUse SentBinding (x .usage)) && holdsLength g x
 

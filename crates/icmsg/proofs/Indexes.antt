@@ -2,7 +2,7 @@
 use Prim.Native.Nat.{ℕ, zero, suc, _+_, _-_, _*_, _/_, _%_, _≤_, _<_}
 use mathlib.Core.Bool.{Bool, true, false, not}
 use mathlib.Core.Path.{_≡_, refl, sym, ap, _∙_}
-use mathlib.Core.List.{List, [], _∷_}
+use mathlib.Core.List.{List, []}
 use native.Mathlib.Nat.{mod-lt, mod-eq-of-lt, mod-add-mod, mod-mod-of-dvd, dvd-of-mod-eq-zero, add-assoc}
 use native.Mathlib.Omega.{arith}
 use lib.Dec.{leb, ltb, eqb}
@@ -14,10 +14,10 @@ use Rattle.wire.proofs.Choices.{check-passed}
 use Rattle.wire.proofs.Trees.{answer-unless, answer-andThen}
 use Rattle.wire.proofs.Wrapped.{mod-past}
 use Rattle.icmsg.specs.Ring.{readIndexAt, indexAt, inRule, isSound, used, packetLength, behind, startContent}
-use Rattle.icmsg.specs.Rules.{Answer, accepted, refused, Outcome, refusal, roomNumber, pushNumber, pushed, pushRule, zeroIndexes, startRule, Found, found, nothing, lookRule, pullFound, pullRule}
-use Rattle.icmsg.specs.Laws.{Sound, HasRoom, IndexesInRule, RefusalNumbers, UsedBytes}
+use Rattle.icmsg.specs.Rules.{accepted, refused, Outcome, refusal, roomNumber, pushNumber, pushed, pushRule, zeroIndexes, startRule, Found, found, nothing, lookRule, pullFound, pullRule}
+use Rattle.icmsg.specs.Laws.{Sound, IndexesInRule, RefusalNumbers, UsedBytes}
 use Rattle.icmsg.specs.declared.Ring.{Ring}
-use Rattle.icmsg.proofs.Checks.{sound-says, room-says, used-straight, used-past-end}
+use Rattle.icmsg.proofs.Checks.{HasRoom, sound-says, room-says, used-straight, used-past-end}
 use Rattle.icmsg.proofs.Pulls.{partner, lengthAt, look-flat, taken, take-flat}
 
 -- ---- an accepted call has passed its checks

@@ -1,27 +1,25 @@
 -- What push puts, a pull with that index takes; and a push leaves the unread bytes alone.
-use Prim.Native.Nat.{ℕ, _+_, _-_, _*_, _/_, _%_, _^_, _≤_, _<_, min}
-use mathlib.Core.Bool.{Bool, true, false, not}
-use mathlib.Core.Path.{_≡_, refl, sym, ap, ap₂, _∙_}
-use mathlib.Core.List.{List, [], _∷_, _++_}
+use Prim.Native.Nat.{ℕ, _+_, _-_, _%_, _≤_, _<_, min}
+use mathlib.Core.Bool.{true}
+use mathlib.Core.Path.{_≡_, sym, ap, _∙_}
+use mathlib.Core.List.{List, []}
 use native.Mathlib.Nat.{mod-lt, zero-add, add-assoc, min-comm}
 use native.Mathlib.Omega.{arith}
-use lib.Dec.{leb, eqb}
-use lib.ListN.{length, getD, take, drop, replicate, length-append, length-replicate}
-use lib.Seq.{take-append-le, take-all}
+use lib.ListN.{length, getD, take, drop, length-append, length-replicate}
+use lib.Seq.{take-append-le}
 use borrow.Author.Tests.{le-leb, ne-eqb}
-use Rattle.wire.specs.Choice.{pick, passed}
-use Rattle.wire.specs.Bytes.{littleEndian, fromLittleEndian, straight, wrapped, bytes, writes, wrote}
+use Rattle.wire.specs.Choice.{passed}
+use Rattle.wire.specs.Bytes.{littleEndian, fromLittleEndian, straight, bytes, writes, wrote}
 use Rattle.wire.specs.Reads.{answer}
-use Rattle.wire.proofs.Numbers.{length-littleEndian}
-use Rattle.wire.proofs.Positions.{length-wrote, wrote-append, byte-kept, outside-append, outside-writes, bytes-kept, bytes-read-back, bytes-part, bytes-first, bytes-that-fit, bytes-at-same, number-written}
+use Rattle.wire.proofs.Positions.{length-wrote, wrote-append, byte-kept, outside-writes, bytes-kept, bytes-read-back, bytes-part, bytes-first, bytes-that-fit, bytes-at-same, number-written}
 use Rattle.wire.proofs.Wrapped.{wrapped-apart, wrapped-shift}
-use Rattle.icmsg.specs.Ring.{readIndexAt, writeIndexAt, dataAt, from, indexAt, inRule, isSound, used, packetLength, packet, contentLength, behind}
-use Rattle.icmsg.specs.Rules.{Outcome, accepted, refusal, pushNumber, pushWrites, pushed, pushRule, found, lookRule, takenWrites, pullFound, pullRule}
-use Rattle.icmsg.specs.Laws.{Sound, HasRoom, after, UnreadKept, RoundTrip}
+use Rattle.icmsg.specs.Ring.{readIndexAt, writeIndexAt, dataAt, from, indexAt, inRule, used, packetLength, packet, contentLength, behind}
+use Rattle.icmsg.specs.Rules.{accepted, refusal, pushNumber, pushWrites, pushed, pushRule, found, lookRule, takenWrites, pullFound}
+use Rattle.icmsg.specs.Laws.{Sound, after, UnreadKept, RoundTrip}
 use Rattle.icmsg.specs.declared.Ring.{Ring}
-use Rattle.icmsg.proofs.Checks.{used-straight}
-use Rattle.icmsg.proofs.Indexes.{PushPassed, push-passed, push-index, indexes-in-rule, used-back, used-of}
-use Rattle.icmsg.proofs.Pulls.{partner, lengthAt, taken, look-flat, take-flat, past-6}
+use Rattle.icmsg.proofs.Checks.{HasRoom, used-straight}
+use Rattle.icmsg.proofs.Indexes.{push-passed, push-index, indexes-in-rule, used-back, used-of}
+use Rattle.icmsg.proofs.Pulls.{partner, lengthAt, look-flat, take-flat, past-6}
 
 -- ---- positions of a ring that lies in its region
 

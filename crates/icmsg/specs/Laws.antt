@@ -2,11 +2,11 @@
 use Prim.Native.Nat.{ℕ, _+_, _-_, _%_, _≤_, _<_}
 use mathlib.Core.Bool.{true}
 use mathlib.Core.Path.{_≡_}
-use mathlib.Core.List.{List, [], _∷_}
+use mathlib.Core.List.{List}
 use lib.ListN.{length, getD, take}
-use Rattle.wire.specs.Bytes.{straight, bytes, writes, wrote, Inside}
+use Rattle.wire.specs.Bytes.{straight, writes, wrote, Inside}
 use Rattle.wire.specs.Reads.{answer}
-use Rattle.icmsg.specs.Ring.{readIndexAt, dataAt, from, indexAt, inRule, used, packetLength, behind}
+use Rattle.icmsg.specs.Ring.{readIndexAt, dataAt, from, indexAt, inRule, used, packetLength}
 use Rattle.icmsg.specs.Rules.{Outcome, refused, accepted, pushRule, startRule, takenWrites, pullRule}
 use Rattle.icmsg.specs.declared.Ring.{Ring}
 
@@ -17,13 +17,6 @@ pub record Sound (n : ℕ) (g : Ring) (i : ℕ) : Type 0 where
   pub data-fours : g .size % 4 ≡ 0
   pub below : i < g .size
   pub fours : i % 4 ≡ 0
-
--- checks 11, 7 and 10
-pub record HasRoom (d r w k : ℕ) : Type 0 where
-  pub short : k ≤ 65535
-  pub below : r < d
-  pub fours : r % 4 ≡ 0
-  pub fits : packetLength k + used d r w ≤ d - 1
 
 -- ---- THE LAWS
 
