@@ -8,12 +8,12 @@ use lib.Dec.{ltb, eqb}
 use lib.ListN.{length, getD}
 use borrow.Author.Tests.{ltb-true, lt-ltb, le-ltb, eqb-true, eqb-false}
 use Rattle.wire.specs.Choice.{pick}
-use Rattle.icbmsg.specs.Tables.{Search, nowhere, foundAt, isFound}
-use Rattle.icbmsg.specs.Endpoints.{uses, endpointAt, someEndpoint, noEndpoint, at, isUnused, unusedFrom}
+use Rattle.blocks.specs.Search.{Search, nowhere, foundAt, isFound}
+use Rattle.endpoints.specs.Endpoints.{uses, endpointAt, someEndpoint, noEndpoint, at, isUnused, unusedFrom}
 use Rattle.icbmsg.specs.Theorems.{AddressLowest}
 use Rattle.wire.proofs.Choices.{both}
-use Rattle.icbmsg.proofs.Effects.{first-at}
-use Rattle.icbmsg.specs.declared.Endpoint.{Endpoint}
+use Rattle.blocks.proofs.Search.{first-at}
+use Rattle.endpoints.specs.declared.Endpoint.{Endpoint}
 
 -- how many pass
 count : (Endpoint → Bool) → List Endpoint → ℕ

@@ -3,8 +3,8 @@ use mathlib.Core.Path.{refl}
 use Rattle.wire.specs.Bytes.{littleEndian, writes, same}
 use Rattle.region.specs.Layout.{isAlignment, isBlockCount, areBounds, roundDown, roundUp, ringMinimum, alignedSize, blockSizeOf, fitted, layout}
 use Rattle.icmsg.specs.Ring.{inRule, packetLength, packet}
-use Rattle.icbmsg.specs.Tables.{allFree, fill, lowest, blocksFor, freeRun}
-use Rattle.icbmsg.specs.Endpoints.{unusedFrom, goodName}
+use Rattle.blocks.specs.Tables.{allFree, fill, lowest, blocksFor, freeRun}
+use Rattle.endpoints.specs.Endpoints.{unusedFrom, goodName}
 use Rattle.icbmsg.specs.Ends.{isOpen, changed}
 use Rattle.icbmsg.specs.Opening.{opening}
 use Rattle.icbmsg.specs.Messages.{reserveOf}

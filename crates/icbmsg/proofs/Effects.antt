@@ -1,13 +1,13 @@
 -- What a call may do to an end: each rule is walked once, and each theorem on lists of calls is then read off.
-use Prim.Native.Nat.{ℕ, zero, suc, _+_, _-_, _*_, _≤_, _<_, min}
+use Prim.Native.Nat.{ℕ, _+_, _-_, _*_, _≤_, _<_, min}
 use mathlib.Core.Bool.{Bool, true, false, not, _&&_}
-use mathlib.Core.Path.{_≡_, refl, sym, subst}
+use mathlib.Core.Path.{_≡_, refl}
 use mathlib.Core.List.{List, [], _∷_}
 use native.Mathlib.Omega.{arith}
 use native.Mathlib.Nat.{mul-le-mul, mul-le-mul-right}
 use lib.Dec.{leb, ltb, eqb}
-use lib.ListN.{length, getD, set, length-set}
-use borrow.Author.Tests.{eqb-false, ltb-true, leb-true, eqb-true, le-leb, not-true}
+use lib.ListN.{length, set, length-set}
+use borrow.Author.Tests.{ltb-true, leb-true, le-leb, not-true}
 use Rattle.wire.specs.Choice.{pick}
 use Rattle.wire.specs.Bytes.{same}
 use Rattle.wire.specs.Reads.{answer}
@@ -15,28 +15,34 @@ use Rattle.wire.proofs.Choices.{both}
 use Rattle.icmsg.specs.Ring.{inRule}
 use Rattle.icmsg.specs.Rules.{Outcome as RingOutcome, Answer, refused as ringNo, accepted as ringYes, pushRule as ringPush, startRule as ringStart, pullRule as ringPull}
 use Rattle.icmsg.specs.declared.Ring.{Ring}
-use Rattle.icmsg.proofs.Indexes.{indexes-in-rule, refusal-numbers}
+use Rattle.icmsg.proofs.Indexes.{indexes-in-rule, refusals}
 use Rattle.icbmsg.specs.Outcome.{refusedWith, ringRefused, Outcome, refused, check, guard}
-use Rattle.icbmsg.specs.Tables.{Search, nowhere, foundAt, firstFrom, entry, lies, starts, startsData, allFree, freed, taken, runEntry, lowest, blocksFor, blockAt, freeRun, inUse}
-use Rattle.icbmsg.specs.Endpoints.{endpointAt, bindingAt, someEndpoint, someBinding, paddedName, noBinding, at, isUnused, boundAt, registered, waitingFor, holds, clashes, clashesStored, unusedFrom, goodName}
-use Rattle.icbmsg.specs.Ends.{soundEnd, isOpen, changed, withWrite, withRead, foundOr, whole}
+use Rattle.blocks.specs.Search.{Search, nowhere, foundAt}
+use Rattle.blocks.specs.Tables.{entry, lies, starts, startsData, allFree, freed, taken, runEntry, blocksFor, freeRun}
+use Rattle.icbmsg.specs.Ends.{blockAt, soundEnd, isOpen, changed, withWrite, withRead, foundOr, whole}
+use Rattle.endpoints.specs.Endpoints.{endpointAt, bindingAt, someEndpoint, someBinding, paddedName, noBinding, at, isUnused, boundAt, registered, waitingFor, holds, clashes, clashesStored, unusedFrom, goodName, waitingAt, boundNow}
 use Rattle.icbmsg.specs.Rings.{ringOf, pushOutcome, pullOutcome, pushOf, startOf, pullRule}
 use Rattle.icbmsg.specs.Messages.{reserveOf, roomOf, sendOf, dropOf, viewOf, doneOf, roomQuestion, viewQuestion}
 use Rattle.icbmsg.specs.Registering.{become, followed, initiates, registerOf}
-use Rattle.icbmsg.specs.Arrivals.{Decoded, empty, unknownKind, tooShort, dataSent, dataReleased, bindingSent, bindingReleased, decode, fitsArea, areFree, releaseOf, boundNow, waitingAt, releasedBoundOf, boundTo, boundNamed, boundRule, decodedRule, arrivalRule, dataRule}
+use Rattle.icbmsg.specs.Arrivals.{decode, fitsArea, areFree, releaseOf, releasedBoundOf, boundTo, boundNamed, boundRule, decodedRule, arrivalRule, dataRule}
+use Rattle.icbmsg.specs.declared.Control.{Control}
+use Rattle.icbmsg.specs.declared.Control.the-variants.{TooShort, UnknownKind, DataSent, DataReleased, BindingSent, BindingReleased}
 use Rattle.icbmsg.specs.Calls.{Call, start, push, pull, reserve, room, send, drop, arrival, view, done, register, askRoom, askView, rule, lent, step}
 use Rattle.icbmsg.specs.Reading.{sizeIn, contentAt}
-use Rattle.icbmsg.specs.WellFormed.{leading, blockKind, Live, sentRun, bindingOf}
+use Rattle.blocks.specs.WellFormed.{leading, blockKind, Live}
+use Rattle.icbmsg.specs.WellFormed.{sentRun, bindingOf}
 use Rattle.icbmsg.specs.Theorems.{noRun, thisRun, decodedFrees, freedByName, freedBy, Part, no-part, length-part, room-part, view-part, refusedValues, PartIn, partOf}
-use Rattle.icbmsg.proofs.LeastBlocks.{blocks-hold, blocks-least}
-use Rattle.icbmsg.proofs.Tables.{Each, every, use-is}
+use Rattle.blocks.proofs.LeastBlocks.{blocks-hold, blocks-least, blocks-one}
+use Rattle.blocks.proofs.Search.{first-at, lowest-at}
+use Rattle.blocks.proofs.Tables.{run-of, live, data-run, Each, every}
 use Rattle.icbmsg.proofs.RulesRead.{pull-answer}
-use Rattle.icbmsg.proofs.Arrivals.{Name, endless, name, nameIn, withName, bound-flat, data-flat}
-use Rattle.icbmsg.specs.declared.Use.{Use}
-use Rattle.icbmsg.specs.declared.Use.the-variants.{Reserved, SentData, SentBinding, ReceivedData, StoredBinding}
-use Rattle.icbmsg.specs.declared.Entry.{Entry}
-use Rattle.icbmsg.specs.declared.Endpoint.{Endpoint}
-use Rattle.icbmsg.specs.declared.Binding.{Binding}
+use Rattle.icbmsg.proofs.ArrivingBytes.{withName, bound-flat, data-flat}
+use Rattle.endpoints.specs.Names.{Name, endless, name, nameIn}
+use Rattle.blocks.specs.declared.Use.{Use}
+use Rattle.blocks.specs.declared.Use.the-variants.{Reserved, SentData, SentBinding, ReceivedData, StoredBinding}
+use Rattle.blocks.specs.declared.Entry.{Entry}
+use Rattle.endpoints.specs.declared.Endpoint.{Endpoint}
+use Rattle.endpoints.specs.declared.Binding.{Binding}
 use Rattle.icbmsg.specs.declared.Region.{Region}
 use Rattle.icbmsg.specs.declared.End.{End}
 
@@ -101,92 +107,7 @@ pub sound : (e : End) → isOpen e ≡ true → Each (soundEnd e)
 unfolding isOpen
 sound e h = every (soundEnd e) h
 
--- ---- places
-
-no-place : {j : ℕ} → nowhere ≡ foundAt j → ⊥
-no-place h = let z : _≡_ {A = ℕ} 0 1 = cc in omega arith
-
-same-place : {i j : ℕ} → foundAt i ≡ foundAt j → i ≡ j
-same-place h = cc
-
-pub first-at {ℓ} : {A : Type ℓ} (f : A → Bool) (d : A) (l : List A) (n i j : ℕ) → firstFrom f d l n i ≡ foundAt j → (f (getD l j d) ≡ true) × (j < i + n)
-first-at f d l zero i j h = absurd (no-place h)
-first-at f d l (suc n) i j h = go (f (getD l i d)) refl h (first-at f d l n (suc i) j)
-  where
-    go : (b : Bool) → f (getD l i d) ≡ b → pick b (foundAt i) (firstFrom f d l n (suc i)) ≡ foundAt j →
-        (firstFrom f d l n (suc i) ≡ foundAt j → (f (getD l j d) ≡ true) × (j < suc i + n)) → (f (getD l j d) ≡ true) × (j < i + suc n)
-    go true q h r = let w : i ≡ j = same-place h in (rw w at q, omega arith)
-    go false q h r = (r h .0, omega (arith, r h .1))
-
--- of the starts from s on, f of them: the place found is free and inside, and the lowest such; where none is found, none is
-pub record Lowest (t : List Entry) (s n l j : ℕ) : Type 0 where
-  pub room : j + n ≤ l
-  pub free-there : allFree t j n ≡ true
-  pub from : s ≤ j
-  pub least : (i : ℕ) → s ≤ i → i < j → (leb (i + n) l && allFree t i n) ≡ false
-
-pub lowest-at : (f : ℕ) (t : List Entry) (s n l j : ℕ) → lowest f t s n l ≡ foundAt j → Lowest t s n l j
-unfolding lowest
-lowest-at zero t s n l j h = absurd (no-place h)
-lowest-at (suc f) t s n l j h = go (leb (s + n) l && allFree t s n) refl h (lowest-at f t (suc s) n l j)
-  where
-    step : Lowest t (suc s) n l j → (leb (s + n) l && allFree t s n) ≡ false → (i : ℕ) → s ≤ i → i < j → (leb (i + n) l && allFree t i n) ≡ false
-    step w q i p r = next (eqb s i) refl
-      where
-        next : (b : Bool) → eqb s i ≡ b → (leb (i + n) l && allFree t i n) ≡ false
-        next true z = rw (eqb-true s i z) at q
-        next false z = w .least i (omega (arith, eqb-false s i z)) r
-
-    go : (b : Bool) → (leb (s + n) l && allFree t s n) ≡ b → pick b (foundAt s) (lowest f t (suc s) n l) ≡ foundAt j →
-        (lowest f t (suc s) n l ≡ foundAt j → Lowest t (suc s) n l j) → Lowest t s n l j
-    go true q h r =
-        let w : s ≡ j = same-place h in
-        let z = both (leb (s + n) l) (allFree t s n) q in
-        let here : Lowest t s n l s = record { room = leb-true (s + n) l (z .0); free-there = z .1; from = omega arith; least = λ i p r. absurd (omega arith) } in
-        subst (λ (j : ℕ). Lowest t s n l j) w here
-    go false q h r =
-        let w = r h in
-        record { room = w .room; free-there = w .free-there; from = omega (arith, w .from); least = step w q }
-
-pub none-lowest : (f : ℕ) (t : List Entry) (s n l : ℕ) → lowest f t s n l ≡ nowhere → (i : ℕ) → s ≤ i → i < s + f → (leb (i + n) l && allFree t i n) ≡ false
-unfolding lowest
-none-lowest zero t s n l h i p r = absurd (omega arith)
-none-lowest (suc f) t s n l h i p r = go (leb (s + n) l && allFree t s n) refl h (λ k q. none-lowest f t (suc s) n l k i q (omega arith))
-  where
-    go : (b : Bool) → (leb (s + n) l && allFree t s n) ≡ b → pick b (foundAt s) (lowest f t (suc s) n l) ≡ nowhere →
-        (lowest f t (suc s) n l ≡ nowhere → s < i → (leb (i + n) l && allFree t i n) ≡ false) → (leb (i + n) l && allFree t i n) ≡ false
-    go true q h k = absurd (no-place (sym h))
-    go false q h k = next (eqb s i) refl
-      where
-        next : (b : Bool) → eqb s i ≡ b → (leb (i + n) l && allFree t i n) ≡ false
-        next true z = rw (eqb-true s i z) at q
-        next false z = k h (omega (arith, eqb-false s i z))
-
--- ---- numbers
-
-pub blocks-one : (g : Region) (k : ℕ) → 0 < g .size → 1 ≤ blocksFor g k
-blocks-one g k h = go (blocksFor g k) (blocks-hold g k h)
-  where
-    go : (n : ℕ) → k + 4 ≤ n * g .size → 1 ≤ n
-    go zero l = absurd (omega arith)
-    go (suc n) l = omega arith
-
 -- ---- runs
-
--- what a passed test of a start says
-pub record Run (g : Region) (t : List Entry) (s : ℕ) (u : Use) : Type 0 where
-  use-is-it : entry t s .usage ≡ u
-  one : 1 ≤ entry t s .count
-  pub ends : s + entry t s .count ≤ g .count
-
-pub run-of : (u : Use) (g : Region) (t : List Entry) (s : ℕ) → starts u g t s ≡ true → Run g t s u
-run-of u g t s h =
-    let w = every (inUse u t s ∷ lies g s (entry t s .count) ∷ []) h in
-    let z = every (ltb s (g .count) ∷ leb 1 (entry t s .count) ∷ leb (s + entry t s .count) (g .count) ∷ []) (w .1 .0) in
-    record { use-is-it = use-is u (entry t s .usage) (w .0); one = omega (arith, leb-true); ends = omega (arith, leb-true) }
-
-pub live : {g : Region} {t : List Entry} {s : ℕ} {u : Use} → Run g t s u → blockKind u ≡ leading → Live t s
-live r h = rw (r .use-is-it) h
 
 -- the place of n blocks at s
 pub in-blocks : (g : Region) (s n x : ℕ) → s + n ≤ g .count → x + 4 ≤ n * g .size → (g .blocks ≤ blockAt g s + 4) × (blockAt g s + 4 + x ≤ g .blocks + g .count * g .size)
@@ -207,18 +128,18 @@ write-effect e false ws a o p q = refuses _ refl
 push-effect : (e : End) (tx c : List ℕ) → Effect noRun noRun e length-part (pushOf e tx c)
 unfolding pushOf
 push-effect e tx c =
-    let g : Ring = ringOf e (e .tx) in
+    let g : Ring = ringOf (e .align) (e .tx) in
     let o : RingOutcome = ringPush tx g (e .write) c in
     write-effect e (whole e (e .tx) (length tx)) (o .region) (o .answer) (whole-open e (e .tx) (length tx))
-    (λ n h. refusal-numbers .push tx g (e .write) c n h) (λ k i h. indexes-in-rule .push tx g (e .write) c k i h)
+    (λ n h. refusals .push tx g (e .write) c n h .0) (λ k i h. indexes-in-rule .push tx g (e .write) c k i h)
 
 start-effect : (e : End) (n : ℕ) → Effect noRun noRun e length-part (startOf e n)
 unfolding startOf
 start-effect e n =
-    let g : Ring = ringOf e (e .tx) in
+    let g : Ring = ringOf (e .align) (e .tx) in
     let o : RingOutcome = ringStart n g in
     write-effect e (whole e (e .tx) n) (o .region) (o .answer) (whole-open e (e .tx) n)
-    (λ m h. refusal-numbers .start n g m h) (λ k i h. indexes-in-rule .start n g k i h)
+    (λ m h. refusals .start n g m h .0) (λ k i h. indexes-in-rule .start n g k i h)
 
 read-effect : (e : End) (w : Bool) (ws bs : List (ℕ × ℕ)) (a : Answer) → (w ≡ true → isOpen e ≡ true) → ((n : ℕ) → a ≡ ringNo n → 1 ≤ n) →
     ((k i : ℕ) → a ≡ ringYes k i → inRule (e .rx .ring) i ≡ true) → Effect noRun noRun e length-part (pick w (pullOutcome e ws bs a) (ringRefused e 6))
@@ -228,39 +149,39 @@ read-effect e false ws bs a o p q = refuses _ refl
 
 pull-effect : (e : End) (r : List ℕ) (b : ℕ) → Effect noRun noRun e length-part (answer (pullRule e (length r) b) r)
 pull-effect e r b =
-    let g : Ring = ringOf e (e .rx) in
+    let g : Ring = ringOf (e .align) (e .rx) in
     let o : RingOutcome = answer (ringPull (length r) g (e .read) b) r in
     rw (pull-answer e (length r) b r)
     (read-effect e (whole e (e .rx) (length r)) (o .region) (o .buffer) (o .answer) (whole-open e (e .rx) (length r))
-    (λ n h. refusal-numbers .pull (length r) g (e .read) b r n h) (λ k i h. indexes-in-rule .pull (length r) g (e .read) b r k i h))
+    (λ n h. refusals .pull (length r) g (e .read) b r n h .0) (λ k i h. indexes-in-rule .pull (length r) g (e .read) b r k i h))
 
 pub size-pos : (e : End) → isOpen e ≡ true → (0 < e .tx .size) × (0 < e .rx .size)
 size-pos e o = let z = sound e o in omega (arith, leb-true)
 
 -- a run of as many blocks as K needs
-take-run : (e : End) (u : Use) (a k m s : ℕ) → isOpen e ≡ true → blockKind u ≡ leading → sentRun (e .tx) (runEntry u (blocksFor (e .tx) k) a m) ≡ true →
-    freeRun (e .tx) (e .sent) (blocksFor (e .tx) k) ≡ foundAt s → SentChange noRun (e .tx .count) (sentRun (e .tx)) (e .sent) (taken (e .sent) u s (blocksFor (e .tx) k) a m)
+take-run : (e : End) (u : Use) (a k m s : ℕ) → isOpen e ≡ true → blockKind u ≡ leading → sentRun (e .tx) (runEntry u (blocksFor (e .tx .size) k) a m) ≡ true →
+    freeRun (e .tx .count) (e .sent) (blocksFor (e .tx .size) k) ≡ foundAt s → SentChange noRun (e .tx .count) (sentRun (e .tx)) (e .sent) (taken (e .sent) u s (blocksFor (e .tx .size) k) a m)
 unfolding freeRun
 take-run e u a k m s o su g q =
-    let w = lowest-at (e .tx .count) (e .sent) 0 (blocksFor (e .tx) k) (e .tx .count) s q in
-    takes u s (blocksFor (e .tx) k) a m su g (w .free-there) (blocks-one (e .tx) k (size-pos e o .0)) (w .room)
+    let w = lowest-at (e .tx .count) (e .sent) 0 (blocksFor (e .tx .size) k) (e .tx .count) s q in
+    takes u s (blocksFor (e .tx .size) k) a m su g (w .free-there) (blocks-one (e .tx .size) k (size-pos e o .0)) (w .room)
 
 reserve-effect : (e : End) (k : ℕ) → Effect noRun noRun e no-part (reserveOf e k)
 unfolding reserveOf
 reserve-effect e k =
     checked (isOpen e) _ (refl, refl) λ o.
-    checked (leb (blocksFor (e .tx) k) (e .tx .count)) _ (refl, refl) λ _.
-    found (freeRun (e .tx) (e .sent) (blocksFor (e .tx) k)) _ (refl, refl) λ s q.
+    checked (leb (blocksFor (e .tx .size) k) (e .tx .count)) _ (refl, refl) λ _.
+    found (freeRun (e .tx .count) (e .sent) (blocksFor (e .tx .size) k)) _ (refl, refl) λ s q.
     accepts refl o (refl, refl) (sends (e .endpoints) (take-run e Reserved 0 k 0 s o refl refl q) refl)
 
 room-effect : (e : End) (n s : ℕ) → Effect noRun noRun e room-part (roomOf e n s)
 unfolding roomOf
 room-effect e n s =
     checked (whole e (e .tx) n) _ (refl, refl) λ w.
-    checked (starts Reserved (e .tx) (e .sent) s) _ (refl, refl) λ h.
+    checked (starts Reserved (e .tx .count) (e .sent) s) _ (refl, refl) λ h.
     let o = whole-open e (e .tx) n w in
     let z = sound e o in
-    let r = run-of Reserved (e .tx) (e .sent) s h in
+    let r = run-of Reserved (e .tx .count) (e .sent) s h in
     let x : ℕ = entry (e .sent) s .count * e .tx .size in
     let l : 4 ≤ x = omega (arith, mul-le-mul (r .one) (leb-true 4 (e .tx .size) (z .1 .1 .1 .1 .1 .1 .1 .1 .1 .1 .1 .1 .0))) in
     accepts refl o (in-blocks (e .tx) s (entry (e .sent) s .count) (x - 4) (r .ends) (omega arith)) stays
@@ -269,59 +190,52 @@ send-effect : (e : End) (n s a k : ℕ) → Effect (thisRun s) noRun e no-part (
 unfolding sendOf
 send-effect e n s a k =
     checked (whole e (e .tx) n) _ (refl, refl) λ w.
-    checked (starts Reserved (e .tx) (e .sent) s) _ (refl, refl) λ h.
+    checked (starts Reserved (e .tx .count) (e .sent) s) _ (refl, refl) λ h.
     checked (someEndpoint (boundAt a) (e .endpoints)) _ (refl, refl) λ _.
     checked (leb (k + 4) (entry (e .sent) s .count * e .tx .size)) _ (refl, refl) λ f.
     let o = whole-open e (e .tx) n w in
-    let r = run-of Reserved (e .tx) (e .sent) s h in
+    let r = run-of Reserved (e .tx .count) (e .sent) s h in
     let p = size-pos e o .0 in
     accepts refl o (refl, refl)
     (sends (e .endpoints)
-    (trims SentData s (blocksFor (e .tx) k) a k refl (live r refl) refl (le-leb (k + 4) (blocksFor (e .tx) k * e .tx .size) (blocks-hold (e .tx) k p)) (blocks-one (e .tx) k p)
-    (blocks-least (e .tx) k (entry (e .sent) s .count) (leb-true (k + 4) (entry (e .sent) s .count * e .tx .size) f) p))
+    (trims SentData s (blocksFor (e .tx .size) k) a k refl (live r refl) refl (le-leb (k + 4) (blocksFor (e .tx .size) k * e .tx .size) (blocks-hold (e .tx .size) k p)) (blocks-one (e .tx .size) k p)
+    (blocks-least (e .tx .size) k (entry (e .sent) s .count) (leb-true (k + 4) (entry (e .sent) s .count * e .tx .size) f) p))
     refl)
 
 drop-effect : (e : End) (s : ℕ) → Effect (thisRun s) noRun e no-part (dropOf e s)
 unfolding dropOf
 drop-effect e s =
     checked (isOpen e) _ (refl, refl) λ o.
-    checked (starts Reserved (e .tx) (e .sent) s) _ (refl, refl) λ h.
-    accepts refl o (refl, refl) (sends (e .endpoints) (frees s refl (live (run-of Reserved (e .tx) (e .sent) s h) refl)) refl)
-
--- received data
-data-run : (e : End) (s : ℕ) → startsData (e .rx) (e .held) s ≡ true →
-    Run (e .rx) (e .held) s ReceivedData × (entry (e .held) s .length + 4 ≤ entry (e .held) s .count * e .rx .size)
-data-run e s h =
-    let w = every (starts ReceivedData (e .rx) (e .held) s ∷ leb (entry (e .held) s .length + 4) (entry (e .held) s .count * e .rx .size) ∷ []) h in
-    (run-of ReceivedData (e .rx) (e .held) s (w .0), leb-true _ _ (w .1 .0))
+    checked (starts Reserved (e .tx .count) (e .sent) s) _ (refl, refl) λ h.
+    accepts refl o (refl, refl) (sends (e .endpoints) (frees s refl (live (run-of Reserved (e .tx .count) (e .sent) s h) refl)) refl)
 
 view-effect : (e : End) (n s : ℕ) → Effect noRun noRun e view-part (viewOf e n s)
 unfolding viewOf
 view-effect e n s =
     checked (whole e (e .rx) n) _ (refl, refl) λ w.
-    checked (startsData (e .rx) (e .held) s) _ (refl, refl) λ h.
-    let d = data-run e s h in
+    checked (startsData (e .rx .count) (e .rx .size) (e .held) s) _ (refl, refl) λ h.
+    let d = data-run (e .rx .count) (e .rx .size) (e .held) s h in
     accepts refl (whole-open e (e .rx) n w) (in-blocks (e .rx) s (entry (e .held) s .count) (entry (e .held) s .length) (d .0 .ends) (d .1)) stays
 
 done-effect : (e : End) (s : ℕ) → Effect noRun (thisRun s) e no-part (doneOf e s)
 unfolding doneOf
 done-effect e s =
     checked (isOpen e) _ (refl, refl) λ o.
-    checked (startsData (e .rx) (e .held) s) _ (refl, refl) λ h.
-    accepts refl o (refl, refl) (keeps (e .endpoints) (finishes s refl (data-run e s h .0 .use-is-it)) refl)
+    checked (startsData (e .rx .count) (e .rx .size) (e .held) s) _ (refl, refl) λ h.
+    accepts refl o (refl, refl) (keeps (e .endpoints) (finishes s refl (data-run (e .rx .count) (e .rx .size) (e .held) s h .0 .use-is-it)) refl)
 
 roomQuestion-effect : (e : End) (s n : ℕ) → Effect noRun noRun e no-part (roomQuestion e s n)
 unfolding roomQuestion
 roomQuestion-effect e s n =
     checked (whole e (e .tx) n) _ (refl, refl) λ w.
-    checked (starts Reserved (e .tx) (e .sent) s) _ (refl, refl) λ _.
+    checked (starts Reserved (e .tx .count) (e .sent) s) _ (refl, refl) λ _.
     accepts refl (whole-open e (e .tx) n w) (refl, refl) stays
 
 viewQuestion-effect : (e : End) (s n : ℕ) → Effect noRun noRun e no-part (viewQuestion e s n)
 unfolding viewQuestion
 viewQuestion-effect e s n =
     checked (whole e (e .rx) n) _ (refl, refl) λ w.
-    checked (startsData (e .rx) (e .held) s) _ (refl, refl) λ _.
+    checked (startsData (e .rx .count) (e .rx .size) (e .held) s) _ (refl, refl) λ _.
     accepts refl (whole-open e (e .rx) n w) (refl, refl) stays
 
 -- register
@@ -329,19 +243,19 @@ initiates-effect : (e : End) (n : List ℕ) (i : ℕ) → isOpen e ≡ true → 
 unfolding initiates
 initiates-effect e n i o =
     let k : ℕ = length n + 1 in
-    checked (leb (blocksFor (e .tx) k) (e .tx .count)) _ (refl, refl) λ _.
-    found (freeRun (e .tx) (e .sent) (blocksFor (e .tx) k)) _ (refl, refl) λ s q.
+    checked (leb (blocksFor (e .tx .size) k) (e .tx .count)) _ (refl, refl) λ _.
+    found (freeRun (e .tx .count) (e .sent) (blocksFor (e .tx .size) k)) _ (refl, refl) λ s q.
     accepts refl o (refl, refl)
     (sends (become e i _ (unusedFrom 8 0 (e .endpoints)) n)
-    (take-run e SentBinding (unusedFrom 8 0 (e .endpoints)) k k s o refl (le-leb (k + 4) (blocksFor (e .tx) k * e .tx .size) (blocks-hold (e .tx) k (size-pos e o .0))) q)
+    (take-run e SentBinding (unusedFrom 8 0 (e .endpoints)) k k s o refl (le-leb (k + 4) (blocksFor (e .tx .size) k * e .tx .size) (blocks-hold (e .tx .size) k (size-pos e o .0))) q)
     (length-set (e .endpoints) i _))
 
-followed-effect : (e : End) (n : List ℕ) (i : ℕ) (q : Search) → isOpen e ≡ true → bindingAt (holds (e .rx) n) (e .bindings) ≡ q → Effect noRun (freedByName e n) e no-part (followed e n i q)
+followed-effect : (e : End) (n : List ℕ) (i : ℕ) (q : Search) → isOpen e ≡ true → bindingAt (holds (e .rx .count) n) (e .bindings) ≡ q → Effect noRun (freedByName e n) e no-part (followed e n i q)
 followed-effect e n i nowhere o h = accepts refl o (refl, refl) (keeps (become e i _ 0 n) nothing (length-set (e .endpoints) i _))
 followed-effect e n i (foundAt j) o h =
-    let w = first-at (holds (e .rx) n) noBinding (e .bindings) 8 0 j h in
+    let w = first-at (holds (e .rx .count) n) noBinding (e .bindings) 8 0 j h in
     let b : Binding = bindingOf (e .bindings) j in
-    let z = every (b .stored ∷ same (b .name) (paddedName n) ∷ lies (e .rx) (b .start) (b .count) ∷ []) (w .0) in
+    let z = every (b .stored ∷ same (b .name) (paddedName n) ∷ lies (e .rx .count) (b .start) (b .count) ∷ []) (w .0) in
     accepts refl o (refl, refl) (keeps (become e i _ (b .address) n) (forgets j (j, h, refl) (omega arith) (z .0)) (length-set (e .endpoints) i _))
 
 register-effect : (e : End) (l : ℕ) (n : List ℕ) → Effect noRun (freedByName e n) e no-part (registerOf e l n)
@@ -352,14 +266,14 @@ register-effect e l n =
     checked (not (someEndpoint (registered n) (e .endpoints))) _ (refl, refl) λ _.
     found (endpointAt (at isUnused) (e .endpoints)) _ (refl, refl) λ i _.
     let o = whole-open e (e .tx) l w in
-    picked (e .initiator) (initiates-effect e n i o) (followed-effect e n i (bindingAt (holds (e .rx) n) (e .bindings)) o refl)
+    picked (e .initiator) (initiates-effect e n i o) (followed-effect e n i (bindingAt (holds (e .rx .count) n) (e .bindings)) o refl)
 
 -- arrivals
 -- blocks of K from b on lie inside
-fit-run : (g : Region) (b k : ℕ) → 0 < g .size → ltb b (g .count) ≡ true → leb (k + 4) ((g .count - b) * g .size) ≡ true → b + blocksFor g k ≤ g .count
+fit-run : (g : Region) (b k : ℕ) → 0 < g .size → ltb b (g .count) ≡ true → leb (k + 4) ((g .count - b) * g .size) ≡ true → b + blocksFor (g .size) k ≤ g .count
 fit-run g b k p h f =
     let l = ltb-true b (g .count) h in
-    omega (arith, blocks-least g k (g .count - b) (leb-true (k + 4) ((g .count - b) * g .size) f) p)
+    omega (arith, blocks-least (g .size) k (g .count - b) (leb-true (k + 4) ((g .count - b) * g .size) f) p)
 
 data-effect : (e : End) (a b : ℕ) (r : List ℕ) → isOpen e ≡ true → Effect noRun noRun e no-part (answer (dataRule e a b) r)
 data-effect e a b r o =
@@ -370,19 +284,19 @@ data-effect e a b r o =
     (checked (leb a 0xFD) _ (refl, refl) λ _.
     checked (someEndpoint (boundAt a) (e .endpoints)) _ (refl, refl) λ _.
     checked (ltb b (g .count)) _ (refl, refl) λ h.
-    checked (fitsArea e b k) _ (refl, refl) λ f.
-    checked (areFree e b k) _ (refl, refl) λ u.
+    checked (fitsArea (e .rx) b k) _ (refl, refl) λ f.
+    checked (areFree (e .held) (e .rx) b k) _ (refl, refl) λ u.
     let m = fit-run g b k p h f in
-    let x = blocks-hold g k p in
+    let x = blocks-hold (g .size) k p in
     accepts refl o (refl, refl)
-    (keeps (e .endpoints) (receives b (blocksFor g k) a k (le-leb (k + 4) (blocksFor g k * g .size) x) u (blocks-one g k p) m) refl))
+    (keeps (e .endpoints) (receives b (blocksFor (g .size) k) a k (le-leb (k + 4) (blocksFor (g .size) k * g .size) x) u (blocks-one (g .size) k p) m) refl))
 
 release-effect : (e : End) (b : ℕ) → isOpen e ≡ true → Effect (thisRun b) noRun e no-part (releaseOf e b)
 unfolding releaseOf
 release-effect e b o =
     checked (ltb b (e .tx .count)) _ (refl, refl) λ _.
-    checked (starts SentData (e .tx) (e .sent) b) _ (refl, refl) λ h.
-    accepts refl o (refl, refl) (sends (e .endpoints) (frees b refl (live (run-of SentData (e .tx) (e .sent) b h) refl)) refl)
+    checked (starts SentData (e .tx .count) (e .sent) b) _ (refl, refl) λ h.
+    accepts refl o (refl, refl) (sends (e .endpoints) (frees b refl (live (run-of SentData (e .tx .count) (e .sent) b h) refl)) refl)
 
 boundNow-length : (ps : List Endpoint) (a : ℕ) (q : Search) → length (boundNow ps a q) ≡ length ps
 boundNow-length ps a nowhere = refl
@@ -393,8 +307,8 @@ unfolding releasedBoundOf
 bindingReleased-effect e a b o =
     checked (leb a 0xFD) _ (refl, refl) λ _.
     checked (ltb b (e .tx .count)) _ (refl, refl) λ _.
-    checked (starts SentBinding (e .tx) (e .sent) b && eqb (entry (e .sent) b .address) a) _ (refl, refl) λ h.
-    let r = run-of SentBinding (e .tx) (e .sent) b (both (starts SentBinding (e .tx) (e .sent) b) _ h .0) in
+    checked (starts SentBinding (e .tx .count) (e .sent) b && eqb (entry (e .sent) b .address) a) _ (refl, refl) λ h.
+    let r = run-of SentBinding (e .tx .count) (e .sent) b (both (starts SentBinding (e .tx .count) (e .sent) b) _ h .0) in
     let q : Search = endpointAt (waitingAt a) (e .endpoints) in
     accepts refl o (refl, refl) (sends (boundNow (e .endpoints) a q) (frees b refl (live r refl)) (boundNow-length (e .endpoints) a q))
 
@@ -424,20 +338,19 @@ bound-effect e a b r o =
     (checked (not (e .initiator)) _ (refl, refl) λ _.
     checked (leb a 0xFD) _ (refl, refl) λ _.
     checked (ltb b (g .count)) _ (refl, refl) λ h.
-    checked (fitsArea e b k) _ (refl, refl) λ f.
-    checked (areFree e b k) _ (refl, refl) λ u.
-    named-effect e a b (blocksFor g k) (nameIn (min k 32) (contentAt e b) r) o u (blocks-one g k p) (fit-run g b k p h f))
+    checked (fitsArea (e .rx) b k) _ (refl, refl) λ f.
+    checked (areFree (e .held) (e .rx) b k) _ (refl, refl) λ u.
+    named-effect e a b (blocksFor (g .size) k) (nameIn (min k 32) (contentAt e b) r) o u (blocks-one (g .size) k p) (fit-run g b k p h f))
 
-decoded-effect : (e : End) (l : Decoded) (r : List ℕ) → isOpen e ≡ true → Effect (decodedFrees l .sent) (decodedFrees l .held) e no-part (answer (decodedRule e l) r)
-decoded-effect e empty r o = refuses _ refl
-decoded-effect e unknownKind r o = refuses _ refl
-decoded-effect e tooShort r o = refuses _ refl
-decoded-effect e (dataSent a b) r o = data-effect e a b r o
-decoded-effect e (dataReleased b) r o = release-effect e b o
-decoded-effect e (bindingSent a b) r o = bound-effect e a b r o
-decoded-effect e (bindingReleased a b) r o = bindingReleased-effect e a b o
+decoded-effect : (e : End) (l : Control) (r : List ℕ) → isOpen e ≡ true → Effect (decodedFrees l .sent) (decodedFrees l .held) e no-part (answer (decodedRule e l) r)
+decoded-effect e UnknownKind r o = refuses _ refl
+decoded-effect e TooShort r o = refuses _ refl
+decoded-effect e (DataSent a b) r o = data-effect e a b r o
+decoded-effect e (DataReleased b) r o = release-effect e b o
+decoded-effect e (BindingSent a b) r o = bound-effect e a b r o
+decoded-effect e (BindingReleased a b) r o = bindingReleased-effect e a b o
 
-arrival-effect : (e : End) (w : Bool) (l : Decoded) (r : List ℕ) → (w ≡ true → isOpen e ≡ true) → Effect (decodedFrees l .sent) (decodedFrees l .held) e no-part (answer (guard w 6 e (decodedRule e l)) r)
+arrival-effect : (e : End) (w : Bool) (l : Control) (r : List ℕ) → (w ≡ true → isOpen e ≡ true) → Effect (decodedFrees l .sent) (decodedFrees l .held) e no-part (answer (guard w 6 e (decodedRule e l)) r)
 arrival-effect e true l r h = decoded-effect e l r (h refl)
 arrival-effect e false l r h = refuses _ refl
 

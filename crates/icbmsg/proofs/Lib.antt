@@ -1,7 +1,13 @@
-pub mod LeastBlocks
-pub mod Tables
-pub mod Arrivals
+pub mod OpenSays
 pub mod RulesRead
+pub mod RingCalls
+pub mod MessageCalls
+pub mod Decoding
+pub mod Measuring
+pub mod OpeningCall
+pub mod ArrivingBytes
+pub mod ArrivalCalls
+pub mod RegisterCalls
 pub mod Effects
 pub mod Separate
 pub mod RunsStay

@@ -16,34 +16,41 @@ use Rattle.wire.proofs.Sameness.{same-true, same-self}
 use Rattle.wire.specs.Bytes.{same}
 use Rattle.icmsg.specs.Rules.{Outcome as RingOutcome, Answer, refused as ringNo, accepted as ringYes, pushRule as ringPush, startRule as ringStart, pullRule as ringPull}
 use Rattle.icbmsg.specs.Outcome.{Outcome, ringRefused, check, guard}
-use Rattle.icbmsg.specs.Tables.{Search, nowhere, foundAt, isFound, firstFrom, entry, isUse, inUse, lies, starts, startsData, freeEntry, runEntry, freed, taken, blocksFor, freeRun}
-use Rattle.icbmsg.specs.Endpoints.{uses, paddedName, noEndpoint, noBinding, at, isUnused, isWaiting, isBound, boundAt, registered, waitingFor, holds, clashes, clashesStored, endpointAt, bindingAt, someEndpoint, someBinding, unusedFrom, goodName}
+use Rattle.blocks.specs.Search.{Search, nowhere, foundAt, isFound, firstFrom}
+use Rattle.blocks.specs.Tables.{entry, isUse, inUse, lies, starts, startsData, freeEntry, runEntry, freed, taken, blocksFor, freeRun}
+use Rattle.endpoints.specs.Endpoints.{uses, paddedName, noEndpoint, noBinding, at, isUnused, isWaiting, isBound, boundAt, registered, waitingFor, holds, clashes, clashesStored, endpointAt, bindingAt, someEndpoint, someBinding, unusedFrom, goodName, waitingAt, boundNow}
 use Rattle.icbmsg.specs.Ends.{isOpen, whole, foundOr, changed}
-use Rattle.icbmsg.specs.Opening.{Opening, Opened}
+use Rattle.icbmsg.specs.Opening.{Opened}
+use Rattle.icbmsg.specs.declared.Opening.{Opening}
 use Rattle.icbmsg.specs.Rings.{ringOf, pushOutcome, pullOutcome, pushOf, startOf}
 use Rattle.icbmsg.specs.Messages.{reserveOf, roomOf, sendOf, dropOf, viewOf, doneOf, roomQuestion, viewQuestion}
 use Rattle.icbmsg.specs.Registering.{followed, initiates, registerOf}
-use Rattle.icbmsg.specs.Arrivals.{Decoded, empty, unknownKind, tooShort, dataSent, dataReleased, bindingSent, bindingReleased, decode, fitsArea, areFree, releaseOf, boundNow, waitingAt, releasedBoundOf, boundTo, boundNamed, boundRule, decodedRule, arrivalRule, dataRule}
+use Rattle.icbmsg.specs.Arrivals.{decode, fitsArea, areFree, releaseOf, releasedBoundOf, boundTo, boundNamed, boundRule, decodedRule, arrivalRule, dataRule}
+use Rattle.icbmsg.specs.declared.Control.{Control}
+use Rattle.icbmsg.specs.declared.Control.the-variants.{TooShort, UnknownKind, DataSent, DataReleased, BindingSent, BindingReleased}
 use Rattle.icbmsg.specs.Calls.{Call, start, push, pull, reserve, room, send, drop, arrival, view, done, register, askRoom, askView, rule, lent, step}
 use Rattle.icbmsg.specs.Reading.{sizeIn, contentAt}
-use Rattle.icbmsg.specs.WellFormed.{leading, blockKind, Live, bindingOf, IsKept, Separate}
+use Rattle.blocks.specs.WellFormed.{leading, blockKind, Live}
+use Rattle.icbmsg.specs.WellFormed.{bindingOf, IsKept, Separate}
 use Rattle.icbmsg.specs.Theorems.{Reached, opened, called}
 use Rattle.icbmsg.specs.Names.{endpointOf, isUsed, IsAnnounced, Once, WaitsAlone, NamesKept}
-use Rattle.icbmsg.proofs.LeastBlocks.{blocks-least}
-use Rattle.icbmsg.proofs.Tables.{every, use-is, Taken, its-first, its-later, apart, Freed, gone, freed-live, freed-view, taken-view, free-law}
-use Rattle.icbmsg.proofs.Arrivals.{Name, endless, name, nameIn, withName, bound-flat, data-flat}
+use Rattle.blocks.proofs.LeastBlocks.{blocks-least, blocks-one}
+use Rattle.blocks.proofs.Tables.{every, use-is, Taken, its-first, its-later, apart, Freed, gone, freed-live, freed-view, taken-view, free-law}
+use Rattle.icbmsg.proofs.ArrivingBytes.{withName, bound-flat, data-flat}
+use Rattle.endpoints.specs.Names.{Name, endless, name, nameIn}
 use Rattle.icbmsg.proofs.RulesRead.{pull-answer}
-use Rattle.icbmsg.proofs.Effects.{first-at, lowest-at, blocks-one, sound, whole-open}
+use Rattle.blocks.proofs.Search.{first-at, lowest-at}
+use Rattle.icbmsg.proofs.Effects.{sound, whole-open}
 use Rattle.icbmsg.proofs.Separate.{Is, that, another, is, Opens, opens, shuts, how-opened, separate}
 use Rattle.icbmsg.proofs.Addresses.{address-lowest}
 use Rattle.icbmsg.proofs.Promises.{stored-holds}
-use Rattle.icbmsg.specs.declared.Use.{Use}
-use Rattle.icbmsg.specs.declared.Use.the-variants.{Reserved, SentData, SentBinding}
-use Rattle.icbmsg.specs.declared.Stage.{Stage}
-use Rattle.icbmsg.specs.declared.Stage.the-variants.{Unused, Waiting, Bound}
-use Rattle.icbmsg.specs.declared.Entry.{Entry}
-use Rattle.icbmsg.specs.declared.Endpoint.{Endpoint}
-use Rattle.icbmsg.specs.declared.Binding.{Binding}
+use Rattle.blocks.specs.declared.Use.{Use}
+use Rattle.blocks.specs.declared.Use.the-variants.{Reserved, SentData, SentBinding}
+use Rattle.endpoints.specs.declared.Stage.{Stage}
+use Rattle.endpoints.specs.declared.Stage.the-variants.{Unused, Waiting, Bound}
+use Rattle.blocks.specs.declared.Entry.{Entry}
+use Rattle.endpoints.specs.declared.Endpoint.{Endpoint}
+use Rattle.endpoints.specs.declared.Binding.{Binding}
 use Rattle.icbmsg.specs.declared.Region.{Region}
 use Rattle.icbmsg.specs.declared.End.{End}
 
@@ -316,8 +323,8 @@ others-freed {t} {t′} {s} {n} v i h = go (v i) h
     go (apart p e) h = e
 
 -- a start's test tells the use
-started : (u : Use) (g : Region) (t : List Entry) (s : ℕ) → starts u g t s ≡ true → entry t s .usage ≡ u
-started u g t s h = use-is u (entry t s .usage) (every (inUse u t s ∷ lies g s (entry t s .count) ∷ []) h .0)
+started : (u : Use) (g : Region) (t : List Entry) (s : ℕ) → starts u (g .count) t s ≡ true → entry t s .usage ≡ u
+started u g t s h = use-is u (entry t s .usage) (every (inUse u t s ∷ lies (g .count) s (entry t s .count) ∷ []) h .0)
 
 module _ {e : End} (w : Separate e) (v : InvOf e) where
   checked : {o : Outcome} (b : Bool) (n : ℕ) → (b ≡ true → Good o) → Good (check b n e o)
@@ -348,63 +355,63 @@ module _ {e : End} (w : Separate e) (v : InvOf e) where
   pull-good false ws bs a = record { kept = v }
 
   -- messages
-  run-view : (u : Use) (a k m s : ℕ) → isOpen e ≡ true → freeRun (e .tx) (e .sent) (blocksFor (e .tx) k) ≡ foundAt s → (i : ℕ) →
-      Taken (e .sent) (taken (e .sent) u s (blocksFor (e .tx) k) a m) (runEntry u (blocksFor (e .tx) k) a m) s (blocksFor (e .tx) k) i
+  run-view : (u : Use) (a k m s : ℕ) → isOpen e ≡ true → freeRun (e .tx .count) (e .sent) (blocksFor (e .tx .size) k) ≡ foundAt s → (i : ℕ) →
+      Taken (e .sent) (taken (e .sent) u s (blocksFor (e .tx .size) k) a m) (runEntry u (blocksFor (e .tx .size) k) a m) s (blocksFor (e .tx .size) k) i
   unfolding freeRun
   run-view u a k m s o q =
-      let z = lowest-at (e .tx .count) (e .sent) 0 (blocksFor (e .tx) k) (e .tx .count) s q in
-      taken-view (w .sent) (few o) u s (blocksFor (e .tx) k) a m (blocks-one (e .tx) k (wide o)) (z .room)
+      let z = lowest-at (e .tx .count) (e .sent) 0 (blocksFor (e .tx .size) k) (e .tx .count) s q in
+      taken-view (w .sent) (few o) u s (blocksFor (e .tx .size) k) a m (blocks-one (e .tx .size) k (wide o)) (z .room)
 
   reserve-good : (k : ℕ) → Good (reserveOf e k)
   unfolding reserveOf changed
   reserve-good k =
       checked (isOpen e) 6 λ o.
-      checked (leb (blocksFor (e .tx) k) (e .tx .count)) 23 λ _.
-      found (freeRun (e .tx) (e .sent) (blocksFor (e .tx) k)) 24 λ s q.
+      checked (leb (blocksFor (e .tx .size) k) (e .tx .count)) 23 λ _.
+      found (freeRun (e .tx .count) (e .sent) (blocksFor (e .tx .size) k)) 24 λ s q.
       record { kept = fewer-sent v (others-taken (run-view Reserved 0 k 0 s o q) refl) }
 
-  freed-sent : (u : Use) (s : ℕ) → isOpen e ≡ true → blockKind u ≡ leading → starts u (e .tx) (e .sent) s ≡ true → Inv (e .initiator) (freed (e .sent) s (entry (e .sent) s .count)) (e .endpoints) (e .bindings)
+  freed-sent : (u : Use) (s : ℕ) → isOpen e ≡ true → blockKind u ≡ leading → starts u (e .tx .count) (e .sent) s ≡ true → Inv (e .initiator) (freed (e .sent) s (entry (e .sent) s .count)) (e .endpoints) (e .bindings)
   freed-sent u s o k h = fewer-sent v (others-freed (freed-view (w .sent) (few o) s (rw (started u (e .tx) (e .sent) s h) k)))
 
   send-good : (n s a k : ℕ) → Good (sendOf e n s a k)
   unfolding sendOf changed
   send-good n s a k =
       checked (whole e (e .tx) n) 6 λ b.
-      checked (starts Reserved (e .tx) (e .sent) s) 25 λ h.
+      checked (starts Reserved (e .tx .count) (e .sent) s) 25 λ h.
       checked (someEndpoint (boundAt a) (e .endpoints)) 15 λ _.
       checked (leb (k + 4) (entry (e .sent) s .count * e .tx .size)) 23 λ f.
       let o = whole-open e (e .tx) n b in
       let l : Live (e .sent) s = rw (started Reserved (e .tx) (e .sent) s h) in
-      let m = blocks-least (e .tx) k (entry (e .sent) s .count) (leb-true (k + 4) (entry (e .sent) s .count * e .tx .size) f) (wide o) in
-      let t = taken-view (free-law (w .sent) (few o) s l) (few o) SentData s (blocksFor (e .tx) k) a k (blocks-one (e .tx) k (wide o)) (omega (arith, w .sent .within s l .1)) in
+      let m = blocks-least (e .tx .size) k (entry (e .sent) s .count) (leb-true (k + 4) (entry (e .sent) s .count * e .tx .size) f) (wide o) in
+      let t = taken-view (free-law (w .sent) (few o) s l) (few o) SentData s (blocksFor (e .tx .size) k) a k (blocks-one (e .tx .size) k (wide o)) (omega (arith, w .sent .within s l .1)) in
       record { kept = fewer-sent (freed-sent Reserved s o refl h) (others-taken t refl) }
 
   drop-good : (s : ℕ) → Good (dropOf e s)
   unfolding dropOf changed
   drop-good s =
       checked (isOpen e) 6 λ o.
-      checked (starts Reserved (e .tx) (e .sent) s) 25 λ h.
+      checked (starts Reserved (e .tx .count) (e .sent) s) 25 λ h.
       record { kept = freed-sent Reserved s o refl h }
 
   done-good : (s : ℕ) → Good (doneOf e s)
   unfolding doneOf changed
-  done-good s = checked (isOpen e) 6 λ _. checked (startsData (e .rx) (e .held) s) 25 λ _. record { kept = v }
+  done-good s = checked (isOpen e) 6 λ _. checked (startsData (e .rx .count) (e .rx .size) (e .held) s) 25 λ _. record { kept = v }
 
   room-good : (n s : ℕ) → Good (roomOf e n s)
   unfolding roomOf
-  room-good n s = checked (whole e (e .tx) n) 6 λ _. checked (starts Reserved (e .tx) (e .sent) s) 25 λ _. record { kept = v }
+  room-good n s = checked (whole e (e .tx) n) 6 λ _. checked (starts Reserved (e .tx .count) (e .sent) s) 25 λ _. record { kept = v }
 
   view-good : (n s : ℕ) → Good (viewOf e n s)
   unfolding viewOf
-  view-good n s = checked (whole e (e .rx) n) 6 λ _. checked (startsData (e .rx) (e .held) s) 25 λ _. record { kept = v }
+  view-good n s = checked (whole e (e .rx) n) 6 λ _. checked (startsData (e .rx .count) (e .rx .size) (e .held) s) 25 λ _. record { kept = v }
 
   roomQuestion-good : (s n : ℕ) → Good (roomQuestion e s n)
   unfolding roomQuestion
-  roomQuestion-good s n = checked (whole e (e .tx) n) 6 λ _. checked (starts Reserved (e .tx) (e .sent) s) 25 λ _. record { kept = v }
+  roomQuestion-good s n = checked (whole e (e .tx) n) 6 λ _. checked (starts Reserved (e .tx .count) (e .sent) s) 25 λ _. record { kept = v }
 
   viewQuestion-good : (s n : ℕ) → Good (viewQuestion e s n)
   unfolding viewQuestion
-  viewQuestion-good s n = checked (whole e (e .rx) n) 6 λ _. checked (startsData (e .rx) (e .held) s) 25 λ _. record { kept = v }
+  viewQuestion-good s n = checked (whole e (e .rx) n) 6 λ _. checked (startsData (e .rx .count) (e .rx .size) (e .held) s) 25 λ _. record { kept = v }
 
   -- register: no endpoint in use has the name
   abbrev Unnamed : List ℕ → Type 0
@@ -424,8 +431,8 @@ module _ {e : End} (w : Separate e) (v : InvOf e) where
       let x = first-at (at isUnused) noEndpoint (e .endpoints) 8 0 i q in
       let p : Endpoint = record { stage = Waiting; address = a; name = paddedName n } in
       let low = address-lowest (e .endpoints) (w .eight) (ap isFound q) .0 in
-      checked (leb (blocksFor (e .tx) (length n + 1)) (e .tx .count)) 23 λ _.
-      found (freeRun (e .tx) (e .sent) (blocksFor (e .tx) (length n + 1))) 24 λ s z.
+      checked (leb (blocksFor (e .tx .size) (length n + 1)) (e .tx .count)) 23 λ _.
+      found (freeRun (e .tx .count) (e .sent) (blocksFor (e .tx .size) (length n + 1))) 24 λ s z.
       record {
         kept = rw r (record {
           names = named-by n i p (omega arith) refl c (λ j h _. l .none-stored j h);
@@ -441,12 +448,12 @@ module _ {e : End} (w : Separate e) (v : InvOf e) where
   follower-kept r l n a = rw r (record { names = n; role = follows (record { none-sent = l .none-sent; addresses = a }) })
 
   followed-good : (n : List ℕ) (i : ℕ) (q : Search) → e .initiator ≡ false → Follows (e .sent) (e .endpoints) (e .bindings) → Unnamed n → i < 8 →
-      bindingAt (holds (e .rx) n) (e .bindings) ≡ q → Good (followed e n i q)
+      bindingAt (holds (e .rx .count) n) (e .bindings) ≡ q → Good (followed e n i q)
   unfolding changed
   followed-good n i nowhere r l c li q =
       let p : Endpoint = record { stage = Waiting; address = 0; name = paddedName n } in
       let unstored : (j : ℕ) → IsKept (e .bindings) j → bindingOf (e .bindings) j .name ≡ paddedName n → ⊥ =
-      λ j h y. none-passes (holds (e .rx) n) noBinding (e .bindings) (w .stored .eight) refl q j
+      λ j h y. none-passes (holds (e .rx .count) n) noBinding (e .bindings) (w .stored .eight) refl q j
       (rw (stored-holds (e .rx) (w .held) (w .stored) n j, h, y) (same-self (paddedName n))) in
       record {
         kept = follower-kept r l (named-by n i p li refl c unstored)
@@ -454,8 +461,8 @@ module _ {e : End} (w : Separate e) (v : InvOf e) where
       }
   followed-good n i (foundAt j) r l c li q =
       let b : Binding = bindingOf (e .bindings) j in
-      let x = first-at (holds (e .rx) n) noBinding (e .bindings) 8 0 j q in
-      let z = every (b .stored ∷ same (b .name) (paddedName n) ∷ lies (e .rx) (b .start) (b .count) ∷ []) (x .0) in
+      let x = first-at (holds (e .rx .count) n) noBinding (e .bindings) 8 0 j q in
+      let z = every (b .stored ∷ same (b .name) (paddedName n) ∷ lies (e .rx .count) (b .start) (b .count) ∷ []) (x .0) in
       let p : Endpoint = record { stage = Bound; address = b .address; name = paddedName n } in
       let lj : j < length (e .bindings) = omega (arith, w .stored .eight) in
       let lp : i < length (e .endpoints) = omega (arith, w .eight) in
@@ -476,9 +483,9 @@ module _ {e : End} (w : Separate e) (v : InvOf e) where
       go (e .initiator) i refl (v .role) (whole-open e (e .tx) l b) unnamed q (omega arith)
     where
       go : (r : Bool) (i : ℕ) → e .initiator ≡ r → Role (e .sent) (e .endpoints) (e .bindings) r → isOpen e ≡ true → Unnamed n → endpointAt (at isUnused) (e .endpoints) ≡ foundAt i → i < 8 →
-          Good (pick r (initiates e n i) (followed e n i (bindingAt (holds (e .rx) n) (e .bindings))))
+          Good (pick r (initiates e n i) (followed e n i (bindingAt (holds (e .rx .count) n) (e .bindings))))
       go true i r (leads l) o c q li = initiates-good n i o r l c q
-      go false i r (follows l) o c q li = followed-good n i (bindingAt (holds (e .rx) n) (e .bindings)) r l c li refl
+      go false i r (follows l) o c q li = followed-good n i (bindingAt (holds (e .rx .count) n) (e .bindings)) r l c li refl
 
   -- a binding that arrives: neither its address nor its name is another's
   record Unclashed (a : ℕ) (n : List ℕ) : Type 0 where
@@ -543,10 +550,10 @@ module _ {e : End} (w : Separate e) (v : InvOf e) where
       (checked (not (e .initiator)) 19 λ h.
       checked (leb a 0xFD) 14 λ _.
       checked (ltb b (e .rx .count)) 16 λ _.
-      checked (fitsArea e b k) 17 λ _.
-      checked (areFree e b k) 18 λ _.
+      checked (fitsArea (e .rx) b k) 17 λ _.
+      checked (areFree (e .held) (e .rx) b k) 18 λ _.
       let f = follower refl (v .role) h in
-      named-good a b (blocksFor (e .rx) k) (nameIn (min k 32) (contentAt e b) r) (f .0) (f .1))
+      named-good a b (blocksFor (e .rx .size) k) (nameIn (min k 32) (contentAt e b) r) (f .0) (f .1))
 
   -- the other arrivals
   data-good : (a b : ℕ) (r : List ℕ) → Good (answer (dataRule e a b) r)
@@ -557,19 +564,19 @@ module _ {e : End} (w : Separate e) (v : InvOf e) where
       (checked (leb a 0xFD) 14 λ _.
       checked (someEndpoint (boundAt a) (e .endpoints)) 15 λ _.
       checked (ltb b (e .rx .count)) 16 λ _.
-      checked (fitsArea e b k) 17 λ _.
-      checked (areFree e b k) 18 λ _.
+      checked (fitsArea (e .rx) b k) 17 λ _.
+      checked (areFree (e .held) (e .rx) b k) 18 λ _.
       record { kept = v })
 
   release-good : (b : ℕ) → isOpen e ≡ true → Good (releaseOf e b)
   unfolding releaseOf changed
   release-good b o =
       checked (ltb b (e .tx .count)) 16 λ _.
-      checked (starts SentData (e .tx) (e .sent) b) 25 λ h.
+      checked (starts SentData (e .tx .count) (e .sent) b) 25 λ h.
       record { kept = freed-sent SentData b o refl h }
 
   -- a binding released: at an initiator, since a follower sent none
-  released-kept : {r : Bool} → Role (e .sent) (e .endpoints) (e .bindings) r → (b : ℕ) (q : Search) → isOpen e ≡ true → starts SentBinding (e .tx) (e .sent) b ≡ true →
+  released-kept : {r : Bool} → Role (e .sent) (e .endpoints) (e .bindings) r → (b : ℕ) (q : Search) → isOpen e ≡ true → starts SentBinding (e .tx .count) (e .sent) b ≡ true →
       endpointAt (waitingAt (entry (e .sent) b .address)) (e .endpoints) ≡ q → e .initiator ≡ r →
       Inv (e .initiator) (freed (e .sent) b (entry (e .sent) b .count)) (boundNow (e .endpoints) (entry (e .sent) b .address) q) (e .bindings)
   released-kept (follows l) b q o h z r = absurd (l .none-sent b (started SentBinding (e .tx) (e .sent) b h))
@@ -593,30 +600,29 @@ module _ {e : End} (w : Separate e) (v : InvOf e) where
   bindingReleased-good a b o =
       checked (leb a 0xFD) 14 λ _.
       checked (ltb b (e .tx .count)) 16 λ _.
-      checked (starts SentBinding (e .tx) (e .sent) b && eqb (entry (e .sent) b .address) a) 25 λ h.
-      let z = both (starts SentBinding (e .tx) (e .sent) b) (eqb (entry (e .sent) b .address) a) h in
+      checked (starts SentBinding (e .tx .count) (e .sent) b && eqb (entry (e .sent) b .address) a) 25 λ h.
+      let z = both (starts SentBinding (e .tx .count) (e .sent) b) (eqb (entry (e .sent) b .address) a) h in
       record { kept = rw (← (eqb-true (entry (e .sent) b .address) a (z .1))) (released-kept (v .role) b _ o (z .0) refl refl) }
 
-  decoded-good : (l : Decoded) (r : List ℕ) → isOpen e ≡ true → Good (answer (decodedRule e l) r)
-  decoded-good empty r o = record { kept = v }
-  decoded-good unknownKind r o = record { kept = v }
-  decoded-good tooShort r o = record { kept = v }
-  decoded-good (dataSent a b) r o = data-good a b r
-  decoded-good (dataReleased b) r o = release-good b o
-  decoded-good (bindingSent a b) r o = bound-good a b r
-  decoded-good (bindingReleased a b) r o = bindingReleased-good a b o
+  decoded-good : (l : Control) (r : List ℕ) → isOpen e ≡ true → Good (answer (decodedRule e l) r)
+  decoded-good UnknownKind r o = record { kept = v }
+  decoded-good TooShort r o = record { kept = v }
+  decoded-good (DataSent a b) r o = data-good a b r
+  decoded-good (DataReleased b) r o = release-good b o
+  decoded-good (BindingSent a b) r o = bound-good a b r
+  decoded-good (BindingReleased a b) r o = bindingReleased-good a b o
 
-  arrival-good : (b : Bool) (l : Decoded) (r : List ℕ) → (b ≡ true → isOpen e ≡ true) → Good (answer (guard b 6 e (decodedRule e l)) r)
+  arrival-good : (b : Bool) (l : Control) (r : List ℕ) → (b ≡ true → isOpen e ≡ true) → Good (answer (guard b 6 e (decodedRule e l)) r)
   arrival-good true l r h = decoded-good l r (h refl)
   arrival-good false l r h = record { kept = v }
 
   -- each call
   step-good : (c : Call) → Good (step e c)
   unfolding step rule lent arrivalRule startOf pushOf
-  step-good (start tx) = let o : RingOutcome = ringStart (length tx) (ringOf e (e .tx)) in push-good (whole e (e .tx) (length tx)) (o .region) (o .answer)
-  step-good (push tx c) = let o : RingOutcome = ringPush tx (ringOf e (e .tx)) (e .write) c in push-good (whole e (e .tx) (length tx)) (o .region) (o .answer)
+  step-good (start tx) = let o : RingOutcome = ringStart (length tx) (ringOf (e .align) (e .tx)) in push-good (whole e (e .tx) (length tx)) (o .region) (o .answer)
+  step-good (push tx c) = let o : RingOutcome = ringPush tx (ringOf (e .align) (e .tx)) (e .write) c in push-good (whole e (e .tx) (length tx)) (o .region) (o .answer)
   step-good (pull rx b) =
-      let o : RingOutcome = answer (ringPull (length rx) (ringOf e (e .rx)) (e .read) (length b)) rx in
+      let o : RingOutcome = answer (ringPull (length rx) (ringOf (e .align) (e .rx)) (e .read) (length b)) rx in
       rw (pull-answer e (length rx) (length b) rx) (pull-good (whole e (e .rx) (length rx)) (o .region) (o .buffer) (o .answer))
   step-good (reserve k) = reserve-good k
   step-good (room tx s) = room-good (length tx) s
@@ -667,7 +673,7 @@ fresh-inv i n m k = record { names = fresh-once isUsed (λ p. p .name) (λ b. b 
     go false = follows (record { none-sent = none-announced n; addresses = fresh-once (at isBound) (λ p. p .address) (λ b. b .address) m k refl })
 
 opened-inv : {o : Opening} {x : Opened} → Opens o x → InvOf (x .end)
-opened-inv {o} (opens p q) = fresh-inv (ltb (o .rxBegin) (o .txBegin)) 256 8 8
+opened-inv {o} (opens p q) = fresh-inv (ltb (o .rx .begin) (o .tx .begin)) 256 8 8
 opened-inv (shuts n h) = fresh-inv false 256 8 8
 
 -- ---- the theorem

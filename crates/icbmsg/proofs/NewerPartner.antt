@@ -11,16 +11,17 @@ use borrow.Author.Tests.{le-leb, lt-ltb, eq-eqb}
 use Rattle.wire.specs.Choice.{pick}
 use Rattle.wire.specs.Reads.{gives, reads, answer, Agree}
 use Rattle.icbmsg.specs.Outcome.{Outcome, Rule, guard}
-use Rattle.icbmsg.specs.Tables.{blocksFor}
+use Rattle.blocks.specs.Tables.{blocksFor}
 use Rattle.icbmsg.specs.Ends.{isOpen, whole}
 use Rattle.icbmsg.specs.Opening.{opening}
 use Rattle.icbmsg.specs.Messages.{viewOf}
-use Rattle.icbmsg.specs.Arrivals.{unknownKind, decode, arrivalRule, boundRule, boundSized, boundNamed, upToZero, areFree}
+use Rattle.icbmsg.specs.Arrivals.{decode, arrivalRule, boundRule, boundSized, boundNamed, upToZero, areFree}
+use Rattle.icbmsg.specs.declared.Control.the-variants.{UnknownKind}
 use Rattle.icbmsg.specs.Calls.{Call, pull, arrival, rule, lent, step, run}
 use Rattle.icbmsg.specs.Reading.{reading, sizeIn, contentAt}
 use Rattle.icbmsg.specs.NewerPartner.{Grown, Change, unchanged, longer, grown, pulls, arrives, views, both, Unknown, unknown-kind, Item, keep, insert, firstCalls, secondCalls, Allowed, ignored, withIgnored, NewerPartner}
 use Rattle.wire.proofs.Trees.{same-answer}
-use Rattle.icbmsg.proofs.LeastBlocks.{fits-too}
+use Rattle.blocks.proofs.LeastBlocks.{fits-too}
 use Rattle.icbmsg.proofs.RulesRead.{rules-read}
 use Rattle.icbmsg.specs.declared.End.{End}
 
@@ -72,14 +73,14 @@ names e (suc n) (suc n′) p (suc z) k r r′ h h′ q same ks =
     read (getD r p 0) _ _ refl c (picked (eqb (getD r p 0) 0) (ks []) rest)
 
 sized : (e : End) (a b k k′ z : ℕ) {r r′ : List ℕ} → k + 4 ≤ (e .rx .count - b) * e .rx .size → k′ + 4 ≤ (e .rx .count - b) * e .rx .size →
-    blocksFor (e .rx) k′ ≡ blocksFor (e .rx) k → k ≤ k′ → z < k → z < 32 → getD r (contentAt e b + z) 0 ≡ 0 →
+    blocksFor (e .rx .size) k′ ≡ blocksFor (e .rx .size) k → k ≤ k′ → z < k → z < 32 → getD r (contentAt e b + z) 0 ≡ 0 →
     ((i : ℕ) → i < k → getD r′ (contentAt e b + i) 0 ≡ getD r (contentAt e b + i) 0) →
     Same (boundSized e a b k) (boundSized e a b k′) r r′
 unfolding boundSized
 sized e a b k k′ z {r} {r′} f f′ bl l i y q same =
     rw (le-leb (k + 4) ((e .rx .count - b) * e .rx .size) f, le-leb (k′ + 4) ((e .rx .count - b) * e .rx .size) f′, bl)
-    (checked (areFree e b k) 18 e
-    (names e (min k 32) (min k′ 32) (contentAt e b) z (λ name. gives (boundNamed e a b (blocksFor (e .rx) k) name)) r r′
+    (checked (areFree (e .held) (e .rx) b k) 18 e
+    (names e (min k 32) (min k′ 32) (contentAt e b) z (λ name. gives (boundNamed e a b (blocksFor (e .rx .size) k) name)) r r′
     (omega arith) (omega arith) q (λ j h. same j (omega arith)) (λ cs. record { is = refl })))
 
 same-bound : (e : End) (a b : ℕ) {r r′ : List ℕ} → Grown e b r r′ → Same (boundRule e a b) (boundRule e a b) r r′
@@ -88,7 +89,7 @@ same-bound e a b {r} {r′} g =
     checked (not (e .initiator)) 19 e
     (checked (leb a 0xFD) 14 e
     (checked (ltb b (e .rx .count)) 16 e
-    (record { is = sized e a b (sizeIn e b r) (sizeIn e b r′) (g .zeroAt) (g .fitting) (fits-too (e .rx) (sizeIn e b r) (sizeIn e b r′) (e .rx .count - b) (g .fitting) (g .blocks)) (g .blocks) (g .larger) (g .inside) (g .early) (g .ended) (g .stays) .is })))
+    (record { is = sized e a b (sizeIn e b r) (sizeIn e b r′) (g .zeroAt) (g .fitting) (fits-too (e .rx .size) (sizeIn e b r) (sizeIn e b r′) (e .rx .count - b) (g .fitting) (g .blocks)) (g .blocks) (g .larger) (g .inside) (g .early) (g .ended) (g .stays) .is })))
 
 same-step : (e : End) {c d : Call} → Change e c d → step e d ≡ step e c
 unfolding step rule lent arrivalRule viewOf
@@ -102,7 +103,7 @@ same-step e (views {r = r} {r′ = r′} {s = s} q) = rw q
 same-step e (both h k) = same-step e k ∙ same-step e h
 
 -- an unknown kind
-decode-unknown : (k : ℕ) (m : List ℕ) → 3 < k → decode (k ∷ m) ≡ unknownKind
+decode-unknown : (k : ℕ) (m : List ℕ) → 3 < k → decode (k ∷ m) ≡ UnknownKind
 decode-unknown k [] h = rw (lt-ltb 3 k h)
 decode-unknown k (a ∷ []) h = rw (lt-ltb 3 k h)
 decode-unknown k (a ∷ b ∷ m) h = rw (lt-ltb 3 k h)

@@ -9,8 +9,8 @@ use Rattle.wire.specs.Bytes.{littleEndian, fromLittleEndian, bytes, writes, wro
 use Rattle.region.specs.Layout.{isAlignment, isBlockCount, areBounds, roundDown, roundUp, ringMinimum, alignedSize, blockSizeOf, fitted, layout}
 use Rattle.icmsg.specs.Ring.{indexAt, inRule, isSound, used, packetLength, packet, contentLength, behind}
 use Rattle.icmsg.specs.Rules.{roomNumber, pushNumber, pushWrites, pushRule as ringPush, startRule as ringStart, lookAt, lookRule, takenWrites, takeRule, pullRule as ringPull}
-use Rattle.icbmsg.specs.Tables.{allFree, fill, lowest, blocksFor, freeRun}
-use Rattle.icbmsg.specs.Endpoints.{unusedFrom, goodName}
+use Rattle.blocks.specs.Tables.{allFree, fill, lowest, blocksFor, freeRun}
+use Rattle.endpoints.specs.Endpoints.{unusedFrom, goodName}
 use Rattle.icbmsg.specs.Ends.{isOpen, changed}
 use Rattle.icbmsg.specs.Opening.{opening}
 use Rattle.icbmsg.specs.Rings.{pushOf, startOf, pullRule}

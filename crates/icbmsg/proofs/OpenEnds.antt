@@ -10,14 +10,16 @@ use Rattle.region.specs.Layout.{layout}
 use Rattle.region.proofs.AcceptedLayouts.{accepted-layouts-lie-inside}
 use Rattle.icmsg.specs.Ring.{inRule}
 use Rattle.icbmsg.specs.Ends.{soundRegion, soundEnd, isOpen}
-use Rattle.icbmsg.specs.Opening.{Opening, Opened, opening, region, freshOf}
-use Rattle.icbmsg.proofs.Tables.{Each, each}
+use Rattle.icbmsg.specs.Opening.{Opened, opening, region, freshOf}
+use Rattle.icbmsg.specs.declared.Bounds.{Bounds}
+use Rattle.icbmsg.specs.declared.Opening.{Opening}
+use Rattle.blocks.proofs.Tables.{Each, each}
 use Rattle.icbmsg.proofs.Separate.{Opens, opens, shuts, how-opened}
 
 -- the numbers of an accepted layout pass every test of a region
-region-sound : (begin end l r a : ℕ) → layout begin end l r a .number ≡ 0 → Each (soundRegion a (region begin end l (layout begin end l r a)))
-region-sound begin end l r a h =
-    let y = accepted-layouts-lie-inside begin end l r a h in
+region-sound : (b : Bounds) (r a : ℕ) → layout (b .begin) (b .end) (b .blocks) r a .number ≡ 0 → Each (soundRegion a (region b (layout (b .begin) (b .end) (b .blocks) r a)))
+region-sound b r a h =
+    let y = accepted-layouts-lie-inside (b .begin) (b .end) (b .blocks) r a h in
     let w = y .in-rule in
     omega (arith, le-leb, lt-ltb, eq-eqb, y .begins, y .header-and-data, y .blocks, y .ends, y .data-low, y .data-fours, y .block-low, w .local-low, w .local-high, w .remote-low, w .bytes-high)
 
@@ -32,10 +34,10 @@ each-append (x ∷ xs) ys h k = (h .0, each-append xs ys (h .1) k)
 opened-open : {o : Opening} {x : Opened} → Opens o x → isOpen (x .end) ≡ eqb (x .number) 0
 unfolding isOpen
 opened-open {o} (opens p q) =
-    let tx = accepted-layouts-lie-inside (o .txBegin) (o .txEnd) (o .txBlocks) (o .rxBlocks) (o .align) p in
-    let rx = accepted-layouts-lie-inside (o .rxBegin) (o .rxEnd) (o .rxBlocks) (o .txBlocks) (o .align) q in
-    let t = region-sound (o .txBegin) (o .txEnd) (o .txBlocks) (o .rxBlocks) (o .align) p in
-    let r = region-sound (o .rxBegin) (o .rxEnd) (o .rxBlocks) (o .txBlocks) (o .align) q in
+    let tx = accepted-layouts-lie-inside (o .tx .begin) (o .tx .end) (o .tx .blocks) (o .rx .blocks) (o .align) p in
+    let rx = accepted-layouts-lie-inside (o .rx .begin) (o .rx .end) (o .rx .blocks) (o .tx .blocks) (o .align) q in
+    let t = region-sound (o .tx) (o .rx .blocks) (o .align) p in
+    let r = region-sound (o .rx) (o .tx .blocks) (o .align) q in
     each (soundEnd (freshOf o)) (
       le-leb 4 (o .align) (tx .in-rule .alignment-low),
       (

@@ -11,23 +11,26 @@ use borrow.Author.Tests.{leb-true, leb-false, le-leb, lt-ltb}
 use Rattle.wire.specs.Choice.{pick}
 use Rattle.wire.specs.Bytes.{same}
 use Rattle.icbmsg.specs.Outcome.{Outcome, refusedWith, accepted, check}
-use Rattle.icbmsg.specs.Tables.{all, Search, nowhere, foundAt, entry, isUse, lies, starts, startsData, allFree, taken, freeRun, inUse}
-use Rattle.icbmsg.specs.Endpoints.{paddedName, holds}
+use Rattle.blocks.specs.Search.{all, Search, nowhere, foundAt}
+use Rattle.blocks.specs.Tables.{entry, isUse, lies, starts, startsData, allFree, taken, freeRun, inUse}
+use Rattle.endpoints.specs.Endpoints.{paddedName, holds}
 use Rattle.icbmsg.specs.Ends.{soundEnd, isOpen, changed, withWrite, withRead, withSent, foundOr}
 use Rattle.icbmsg.specs.Opening.{opening}
 use Rattle.icbmsg.specs.Messages.{reserveOf}
 use Rattle.icbmsg.specs.Calls.{Call, rule, lent, step}
-use Rattle.icbmsg.specs.WellFormed.{leading, blockKind, WellFormed, heldRun, bindingOf, Stored}
+use Rattle.blocks.specs.WellFormed.{leading, blockKind, WellFormed}
+use Rattle.icbmsg.specs.WellFormed.{heldRun, bindingOf, Stored}
 use Rattle.icbmsg.specs.Theorems.{refusedValues, Part, PartIn, left, SameNumbers, FreeRun, need, Reserves, too-long, no-room, at-lowest, Refusals, NumbersStay, OpenStays, OpenExactly, PartsInside, NothingAdded, NeedLeast, ReserveSays, NoRoom}
-use Rattle.icbmsg.proofs.LeastBlocks.{blocks-hold, blocks-least}
-use Rattle.icbmsg.proofs.Tables.{each, free-at, all-free, use-is}
-use Rattle.icbmsg.proofs.Effects.{EndChange, writes, sends, keeps, Effect, refuses, accepts, sound, effect, lowest-at, none-lowest, blocks-one, stays, reads}
+use Rattle.blocks.proofs.LeastBlocks.{blocks-hold, blocks-least, blocks-one}
+use Rattle.blocks.proofs.Tables.{each, free-at, all-free, use-is}
+use Rattle.icbmsg.proofs.Effects.{EndChange, writes, sends, keeps, Effect, refuses, accepts, sound, effect, stays, reads}
+use Rattle.blocks.proofs.Search.{lowest-at, none-lowest}
 use Rattle.icbmsg.proofs.Separate.{separate}
 use Rattle.icbmsg.proofs.OpenEnds.{open-exactly}
-use Rattle.icbmsg.specs.declared.Use.{Use}
-use Rattle.icbmsg.specs.declared.Use.the-variants.{Reserved, SentData, SentBinding, ReceivedData}
-use Rattle.icbmsg.specs.declared.Entry.{Entry}
-use Rattle.icbmsg.specs.declared.Binding.{Binding}
+use Rattle.blocks.specs.declared.Use.{Use}
+use Rattle.blocks.specs.declared.Use.the-variants.{Reserved, SentData, SentBinding, ReceivedData}
+use Rattle.blocks.specs.declared.Entry.{Entry}
+use Rattle.endpoints.specs.declared.Binding.{Binding}
 use Rattle.icbmsg.specs.declared.Region.{Region}
 use Rattle.icbmsg.specs.declared.End.{End}
 
@@ -100,20 +103,20 @@ parts-inside e c z = go (effect e c) z
 -- ---- the added tests refuse nothing more
 
 -- in a table in order a use of a live run is enough
-starts-used : (g : Region) {good : Entry → Bool} {t : List Entry} → WellFormed (g .count) good t → (u : Use) → blockKind u ≡ leading → (s : ℕ) → starts u g t s ≡ inUse u t s
+starts-used : (g : Region) {good : Entry → Bool} {t : List Entry} → WellFormed (g .count) good t → (u : Use) → blockKind u ≡ leading → (s : ℕ) → starts u (g .count) t s ≡ inUse u t s
 starts-used g {t = t} o u k s = go (inUse u t s) refl
   where
-    go : (b : Bool) → inUse u t s ≡ b → pick b (all (lies g s (entry t s .count) ∷ [])) false ≡ b
+    go : (b : Bool) → inUse u t s ≡ b → pick b (all (lies (g .count) s (entry t s .count) ∷ [])) false ≡ b
     go false q = refl
     go true q =
         let w = o .within s (ap blockKind (use-is u (entry t s .usage) q) ∙ k) in
-        each (lies g s (entry t s .count) ∷ [])
+        each (lies (g .count) s (entry t s .count) ∷ [])
         (each (ltb s (g .count) ∷ leb 1 (entry t s .count) ∷ leb (s + entry t s .count) (g .count) ∷ []) (omega (arith, le-leb, lt-ltb)), tt)
 
 received-long : (g : Region) (x : Entry) → heldRun g x ≡ true → isUse ReceivedData (x .usage) ≡ true → leb (x .length + 4) (x .count * g .size) ≡ true
 received-long g x h r = rw (use-is ReceivedData (x .usage) r) at h
 
-received-used : (g : Region) {t : List Entry} → WellFormed (g .count) (heldRun g) t → (s : ℕ) → startsData g t s ≡ inUse ReceivedData t s
+received-used : (g : Region) {t : List Entry} → WellFormed (g .count) (heldRun g) t → (s : ℕ) → startsData (g .count) (g .size) t s ≡ inUse ReceivedData t s
 received-used g {t} o s = rw (starts-used g o ReceivedData refl s) (go (inUse ReceivedData t s) refl)
   where
     go : (b : Bool) → inUse ReceivedData t s ≡ b → pick b (all (leb (entry t s .length + 4) (entry t s .count * g .size) ∷ [])) false ≡ b
@@ -121,16 +124,16 @@ received-used g {t} o s = rw (starts-used g o ReceivedData refl s) (go (inUse Re
     go true q = rw (received-long g (entry t s) (o .passes s (rw (use-is ReceivedData (entry t s .usage) q))) q)
 
 pub stored-holds : (g : Region) {t : List Entry} {bs : List Binding} → WellFormed (g .count) (heldRun g) t → Stored t bs → (n : List ℕ) (j : ℕ) →
-    holds g n (bindingOf bs j) ≡ (bindingOf bs j .stored && same (bindingOf bs j .name) (paddedName n))
+    holds (g .count) n (bindingOf bs j) ≡ (bindingOf bs j .stored && same (bindingOf bs j .name) (paddedName n))
 stored-holds g {t} {bs} o w n j = go (bindingOf bs j .stored) (same (bindingOf bs j .name) (paddedName n)) refl
   where
-    go : (k s : Bool) → bindingOf bs j .stored ≡ k → pick k (pick s (all (lies g (bindingOf bs j .start) (bindingOf bs j .count) ∷ [])) false) false ≡ (k && s)
+    go : (k s : Bool) → bindingOf bs j .stored ≡ k → pick k (pick s (all (lies (g .count) (bindingOf bs j .start) (bindingOf bs j .count) ∷ [])) false) false ≡ (k && s)
     go false s q = refl
     go true false q = refl
     go true true q =
         let r = w .runs j q in
         let z = o .within (bindingOf bs j .start) (rw (r .0)) in
-        each (lies g (bindingOf bs j .start) (bindingOf bs j .count) ∷ [])
+        each (lies (g .count) (bindingOf bs j .start) (bindingOf bs j .count) ∷ [])
         (each (ltb (bindingOf bs j .start) (g .count) ∷ leb 1 (bindingOf bs j .count) ∷ leb (bindingOf bs j .start + bindingOf bs j .count) (g .count) ∷ []) (omega (arith, le-leb, lt-ltb)), tt)
 
 pub nothing-added : NothingAdded
@@ -151,21 +154,21 @@ pub need-least : NeedLeast
 need-least e k o =
     let z = sound e o in
     let p : 0 < e .tx .size = omega (arith, leb-true) in
-    (blocks-hold (e .tx) k p, λ n h. blocks-least (e .tx) k n h p)
+    (blocks-hold (e .tx .size) k p, λ n h. blocks-least (e .tx .size) k n h p)
 
 -- NO ROOM. At an open end exactly one of these is so, and the number says which.
 pub reserves : ReserveSays
 unfolding step rule lent reserveOf freeRun
-reserves e k o = rw o (go (leb (need e k) (e .tx .count)) (freeRun (e .tx) (e .sent) (need e k)) refl refl)
+reserves e k o = rw o (go (leb (need e k) (e .tx .count)) (freeRun (e .tx .count) (e .sent) (need e k)) refl refl)
   where
     one : 1 ≤ need e k
-    one = let z = sound e o in blocks-one (e .tx) k (omega (arith, leb-true))
+    one = let z = sound e o in blocks-one (e .tx .size) k (omega (arith, leb-true))
 
     -- no start where the test failed
     none-at : (i : ℕ) → (leb (i + need e k) (e .tx .count) && allFree (e .sent) i (need e k)) ≡ false → FreeRun e (need e k) i → ⊥
     none-at i h f = false≢true (sym h ∙ rw (le-leb (i + need e k) (e .tx .count) (f .0)) (all-free (e .sent) i (need e k) (f .1)))
 
-    go : (b : Bool) (q : Search) → leb (need e k) (e .tx .count) ≡ b → freeRun (e .tx) (e .sent) (need e k) ≡ q →
+    go : (b : Bool) (q : Search) → leb (need e k) (e .tx .count) ≡ b → freeRun (e .tx .count) (e .sent) (need e k) ≡ q →
         Reserves e k (check b 23 e (foundOr 24 e (λ s. accepted (withSent e (taken (e .sent) Reserved s (need e k) 0 0)) (s ∷ need e k ∷ [])) q))
     go false q h r = too-long (leb-false (need e k) (e .tx .count) h)
     go true nowhere h r =

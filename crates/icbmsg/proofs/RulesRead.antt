@@ -12,11 +12,14 @@ use Rattle.icmsg.specs.Reading.{past, pullReads, isOneOf}
 use Rattle.icmsg.specs.declared.Ring.{Ring}
 use Rattle.icmsg.proofs.PullReads.{pull-reads-what-01-lists}
 use Rattle.icbmsg.specs.Outcome.{Outcome, ringRefused, Rule, check, guard}
-use Rattle.icbmsg.specs.Tables.{Search, nowhere, foundAt, blocksFor}
-use Rattle.icbmsg.specs.Endpoints.{endpointAt, bindingAt, someEndpoint, someBinding, clashes, clashesStored, waitingFor, boundAt}
+use Rattle.blocks.specs.Search.{Search, nowhere, foundAt}
+use Rattle.blocks.specs.Tables.{blocksFor}
+use Rattle.endpoints.specs.Endpoints.{endpointAt, bindingAt, someEndpoint, someBinding, clashes, clashesStored, waitingFor, boundAt, paddedName}
 use Rattle.icbmsg.specs.Ends.{whole, foundOr}
 use Rattle.icbmsg.specs.Rings.{ringOf, pullOutcome, pulled, pullRule}
-use Rattle.icbmsg.specs.Arrivals.{Decoded, empty, unknownKind, tooShort, dataSent, dataReleased, bindingSent, bindingReleased, decode, headerAt, decodedRule, arrivalRule, boundRule, boundSized, boundNamed, upToZero, fitsArea, areFree, boundTo, bindingStored, dataRule}
+use Rattle.icbmsg.specs.Arrivals.{decode, headerAt, decodedRule, arrivalRule, boundRule, boundSized, boundNamed, upToZero, fitsArea, areFree, boundTo, bindingStored, dataRule}
+use Rattle.icbmsg.specs.declared.Control.{Control}
+use Rattle.icbmsg.specs.declared.Control.the-variants.{TooShort, UnknownKind, DataSent, DataReleased, BindingSent, BindingReleased}
 use Rattle.icbmsg.specs.Calls.{Call, start, push, pull, reserve, room, send, drop, arrival, view, done, register, askRoom, askView, rule, lent, step}
 use Rattle.icbmsg.specs.Reading.{sizeIn, contentAt, zeroEnded, arrivalReads, reading}
 use Rattle.icbmsg.specs.declared.End.{End}
@@ -42,12 +45,12 @@ number-pulled : (e : End) (ws bs : List (ℕ × ℕ)) (a : Answer) → pullOutco
 number-pulled e ws bs (refused n) = refl
 number-pulled e ws bs (accepted k i) = refl
 
-pub pull-answer : (e : End) (n b : ℕ) (r : List ℕ) → answer (pullRule e n b) r ≡ pick (whole e (e .rx) n) (pulled e (answer (ringPull n (ringOf e (e .rx)) (e .read) b) r)) (ringRefused e 6)
+pub pull-answer : (e : End) (n b : ℕ) (r : List ℕ) → answer (pullRule e n b) r ≡ pick (whole e (e .rx) n) (pulled e (answer (ringPull n (ringOf (e .align) (e .rx)) (e .read) b) r)) (ringRefused e 6)
 unfolding pullRule
 pull-answer e n b r = simp (answer-unless, answer-andThen)
 
 -- the tree, with the test that the slice is whole apart
-pull-asks : (e : End) (n b : ℕ) (r : List ℕ) → positionsRead (pullRule e n b) r ≡ pick (whole e (e .rx) n) (positionsRead (ringPull n (ringOf e (e .rx)) (e .read) b) r) []
+pull-asks : (e : End) (n b : ℕ) (r : List ℕ) → positionsRead (pullRule e n b) r ≡ pick (whole e (e .rx) n) (positionsRead (ringPull n (ringOf (e .align) (e .rx)) (e .read) b) r) []
 unfolding pullRule
 pull-asks e n b r = simp (positionsRead-unless, positionsRead-map)
 
@@ -60,8 +63,8 @@ pull-reads : (e : End) (r b : List ℕ) → positionsRead (rule e (pull r b)) r 
 unfolding rule lent step reading
 pull-reads e r b =
     rw (pull-answer e (length r) (length b) r, pull-asks e (length r) (length b) r)
-    (pull-cases e (whole e (e .rx) (length r)) (ringOf e (e .rx)) (e .read) (length b) r _ (answer (ringPull (length r) (ringOf e (e .rx)) (e .read) (length b)) r)
-    (pull-reads-what-01-lists (length r) (ringOf e (e .rx)) (e .read) (length b) r))
+    (pull-cases e (whole e (e .rx) (length r)) (ringOf (e .align) (e .rx)) (e .read) (length b) r _ (answer (ringPull (length r) (ringOf (e .align) (e .rx)) (e .read) (length b)) r)
+    (pull-reads-what-01-lists (length r) (ringOf (e .align) (e .rx)) (e .read) (length b) r))
 
 -- kind 0
 data-cases : (a b c f u : Bool) (H : List ℕ) (n : ℕ) → n ≡ pick a (pick b (pick c (pick f (pick u 0 18) 17) 16) 15) 14 →
@@ -77,11 +80,11 @@ pick-nil : (b : Bool) → pick {A = List ℕ} b [] [] ≡ []
 pick-nil true = refl
 pick-nil false = refl
 
-data-asks : (e : End) (a b : ℕ) (r : List ℕ) → positionsRead (dataRule e a b) r ≡ arrivalReads e r (answer (dataRule e a b) r .number) (dataSent a b)
+data-asks : (e : End) (a b : ℕ) (r : List ℕ) → positionsRead (dataRule e a b) r ≡ arrivalReads e r (answer (dataRule e a b) r .number) (DataSent a b)
 unfolding dataRule
 data-asks e a b r =
     (simp (positionsRead-guard, pick-nil))
-    ∙ data-cases (leb a 0xFD) (someEndpoint (boundAt a) (e .endpoints)) (ltb b (e .rx .count)) (fitsArea e b (sizeIn e b r)) (areFree e b (sizeIn e b r)) (headerAt e b)
+    ∙ data-cases (leb a 0xFD) (someEndpoint (boundAt a) (e .endpoints)) (ltb b (e .rx .count)) (fitsArea (e .rx) b (sizeIn e b r)) (areFree (e .held) (e .rx) b (sizeIn e b r)) (headerAt (e .rx) b)
     (answer (dataRule e a b) r .number) (simp (number-guard, answer-readEach))
 
 -- kind 2: its last numbers are none of the checks before the name
@@ -99,7 +102,7 @@ place-late n e f (foundAt i) h k = k i
 
 bound-late : (e : End) (a b n : ℕ) (name : List ℕ) (p : Search) → Late (boundTo e a b n name p .number)
 bound-late e a b n name nowhere =
-    place-late 22 e (bindingStored e a b n name) (bindingAt (λ x. not (x .stored)) (e .bindings)) (record { header = refl; name = refl }) (λ i. record { header = refl; name = refl })
+    place-late 22 e (bindingStored e a b n (paddedName name)) (bindingAt (λ x. not (x .stored)) (e .bindings)) (record { header = refl; name = refl }) (λ i. record { header = refl; name = refl })
 bound-late e a b n name (foundAt i) = record { header = refl; name = refl }
 
 named-late : (e : End) (a b n : ℕ) (name : List ℕ) → Late (boundNamed e a b n name .number)
@@ -139,33 +142,31 @@ bound-cases true true false f u H N x n l q = rw q
 bound-cases true false c f u H N x n l q = rw q
 bound-cases false a c f u H N x n l q = rw q
 
-bound-asks : (e : End) (a b : ℕ) (r : List ℕ) → positionsRead (boundRule e a b) r ≡ arrivalReads e r (answer (boundRule e a b) r .number) (bindingSent a b)
+bound-asks : (e : End) (a b : ℕ) (r : List ℕ) → positionsRead (boundRule e a b) r ≡ arrivalReads e r (answer (boundRule e a b) r .number) (BindingSent a b)
 unfolding boundRule boundSized
 bound-asks e a b r =
     let k : ℕ = sizeIn e b r in
-    let f : List ℕ → Outcome = boundNamed e a b (blocksFor (e .rx) k) in
+    let f : List ℕ → Outcome = boundNamed e a b (blocksFor (e .rx .size) k) in
     (simp (positionsRead-guard, name-asks))
-    ∙ bound-cases (not (e .initiator)) (leb a 0xFD) (ltb b (e .rx .count)) (fitsArea e b k) (areFree e b k) (headerAt e b) (zeroEnded (min k 32) (contentAt e b) r)
+    ∙ bound-cases (not (e .initiator)) (leb a 0xFD) (ltb b (e .rx .count)) (fitsArea (e .rx) b k) (areFree (e .held) (e .rx) b k) (headerAt (e .rx) b) (zeroEnded (min k 32) (contentAt e b) r)
     (answer (upToZero e (min k 32) (contentAt e b) (λ cs. gives (f cs))) r .number)
     (answer (boundRule e a b) r .number)
-    (name-late e (min k 32) (contentAt e b) f r (named-late e a b (blocksFor (e .rx) k)))
+    (name-late e (min k 32) (contentAt e b) f r (named-late e a b (blocksFor (e .rx .size) k)))
     (simp (number-guard, answer-readEach))
 
-decoded-reads : (e : End) (w : Bool) (l : Decoded) (r : List ℕ) → positionsRead (guard w 6 e (decodedRule e l)) r ≡ arrivalReads e r (answer (guard w 6 e (decodedRule e l)) r .number) l
-decoded-reads e true empty r = refl
-decoded-reads e true unknownKind r = refl
-decoded-reads e true tooShort r = refl
-decoded-reads e true (dataSent a b) r = data-asks e a b r
-decoded-reads e true (dataReleased b) r = refl
-decoded-reads e true (bindingSent a b) r = bound-asks e a b r
-decoded-reads e true (bindingReleased a b) r = refl
-decoded-reads e false empty r = refl
-decoded-reads e false unknownKind r = refl
-decoded-reads e false tooShort r = refl
-decoded-reads e false (dataSent a b) r = refl
-decoded-reads e false (dataReleased b) r = refl
-decoded-reads e false (bindingSent a b) r = refl
-decoded-reads e false (bindingReleased a b) r = refl
+decoded-reads : (e : End) (w : Bool) (l : Control) (r : List ℕ) → positionsRead (guard w 6 e (decodedRule e l)) r ≡ arrivalReads e r (answer (guard w 6 e (decodedRule e l)) r .number) l
+decoded-reads e true UnknownKind r = refl
+decoded-reads e true TooShort r = refl
+decoded-reads e true (DataSent a b) r = data-asks e a b r
+decoded-reads e true (DataReleased b) r = refl
+decoded-reads e true (BindingSent a b) r = bound-asks e a b r
+decoded-reads e true (BindingReleased a b) r = refl
+decoded-reads e false UnknownKind r = refl
+decoded-reads e false TooShort r = refl
+decoded-reads e false (DataSent a b) r = refl
+decoded-reads e false (DataReleased b) r = refl
+decoded-reads e false (BindingSent a b) r = refl
+decoded-reads e false (BindingReleased a b) r = refl
 
 -- every rule asks for what the papers say, in this order, and for nothing else
 pub rules-read : (e : End) (c : Call) → positionsRead (rule e c) (lent c .rx) ≡ reading e c

@@ -8,21 +8,22 @@ use lib.Dec.{leb}
 use lib.ListN.{length}
 use borrow.Author.Tests.{leb-true}
 use Rattle.icbmsg.specs.Outcome.{Outcome, check}
-use Rattle.icbmsg.specs.Tables.{entry, starts, allFree, freed, taken, runEntry, blocksFor}
-use Rattle.icbmsg.specs.Endpoints.{boundAt, someEndpoint}
+use Rattle.blocks.specs.Tables.{entry, starts, allFree, freed, taken, runEntry, blocksFor}
+use Rattle.endpoints.specs.Endpoints.{boundAt, someEndpoint}
 use Rattle.icbmsg.specs.Ends.{isOpen, whole, changed}
 use Rattle.icbmsg.specs.Messages.{sendOf}
 use Rattle.icbmsg.specs.Calls.{Call, rule, step}
-use Rattle.icbmsg.specs.WellFormed.{IsFree, Live, InRun, WellFormed, heldRun, bindingOf, Stored, Separate}
+use Rattle.blocks.specs.WellFormed.{IsFree, Live, InRun, WellFormed}
+use Rattle.icbmsg.specs.WellFormed.{heldRun, bindingOf, Stored, Separate}
 use Rattle.icbmsg.specs.Theorems.{Part, Reached, called, left, freedBy, SentKept, HeldKept, RunsStay, SendTrims}
-use Rattle.icbmsg.proofs.Tables.{clash, Relation, below, first, later, above, relation, one-run, Taken, its-first, its-later, apart, Freed, gone, free-at, freed-view, first-entry, taken-view, free-law}
-use Rattle.icbmsg.proofs.Effects.{SentChange, takes, frees, trims, HeldChange, nothing, receives, finishes, stores, forgets, EndChange, stays, writes, reads, sends, keeps, Effect, refuses, accepts, sound, live, run-of, whole-open, size-pos, blocks-one, effect}
-use Rattle.icbmsg.proofs.LeastBlocks.{blocks-least}
+use Rattle.blocks.proofs.Tables.{clash, Relation, below, first, later, above, relation, one-run, Taken, its-first, its-later, apart, Freed, gone, free-at, freed-view, first-entry, taken-view, free-law, live, run-of}
+use Rattle.icbmsg.proofs.Effects.{SentChange, takes, frees, trims, HeldChange, nothing, receives, finishes, stores, forgets, EndChange, stays, writes, reads, sends, keeps, Effect, refuses, accepts, sound, whole-open, size-pos, effect}
+use Rattle.blocks.proofs.LeastBlocks.{blocks-one, blocks-least}
 use Rattle.icbmsg.proofs.Separate.{separate}
-use Rattle.icbmsg.specs.declared.Use.{Use}
-use Rattle.icbmsg.specs.declared.Use.the-variants.{Reserved, SentData}
-use Rattle.icbmsg.specs.declared.Entry.{Entry}
-use Rattle.icbmsg.specs.declared.Binding.{Binding}
+use Rattle.blocks.specs.declared.Use.{Use}
+use Rattle.blocks.specs.declared.Use.the-variants.{Reserved, SentData}
+use Rattle.blocks.specs.declared.Entry.{Entry}
+use Rattle.endpoints.specs.declared.Binding.{Binding}
 use Rattle.icbmsg.specs.declared.Region.{Region}
 use Rattle.icbmsg.specs.declared.End.{End}
 
@@ -145,7 +146,7 @@ runs-stay-until-freed e x s cs = (sent-through e x s cs, held-through e x s cs)
 
 -- what an accepted outcome of a send says
 record Trims (e : End) (s a k : ℕ) (o : Outcome) : Type 0 where
-  trims-to : o .number ≡ 0 → (blocksFor (e .tx) k ≤ entry (e .sent) s .count) × (entry (o .next .sent) s ≡ runEntry SentData (blocksFor (e .tx) k) a k)
+  trims-to : o .number ≡ 0 → (blocksFor (e .tx .size) k ≤ entry (e .sent) s .count) × (entry (o .next .sent) s ≡ runEntry SentData (blocksFor (e .tx .size) k) a k)
 
 tested : {e : End} {s a k : ℕ} {o : Outcome} (b : Bool) (n : ℕ) → 1 ≤ n → (b ≡ true → Trims e s a k o) → Trims e s a k (check b n e o)
 tested true n l t = t refl
@@ -155,18 +156,18 @@ send-trimmed : (e : End) → Separate e → (n s a k : ℕ) → Trims e s a k (s
 unfolding sendOf changed
 send-trimmed e w n s a k =
     tested (whole e (e .tx) n) 6 (omega arith) λ b.
-    tested (starts Reserved (e .tx) (e .sent) s) 25 (omega arith) λ h.
+    tested (starts Reserved (e .tx .count) (e .sent) s) 25 (omega arith) λ h.
     tested (someEndpoint (boundAt a) (e .endpoints)) 15 (omega arith) λ _.
     tested (leb (k + 4) (entry (e .sent) s .count * e .tx .size)) 23 (omega arith) λ f.
     let o = whole-open e (e .tx) n b in
     let z = sound e o in
     let few : e .tx .count ≤ 256 = omega (arith, leb-true) in
     let p = size-pos e o .0 in
-    let r = run-of Reserved (e .tx) (e .sent) s h in
+    let r = run-of Reserved (e .tx .count) (e .sent) s h in
     let l = live r refl in
-    let m = blocks-least (e .tx) k (entry (e .sent) s .count) (leb-true (k + 4) (entry (e .sent) s .count * e .tx .size) f) p in
-    let one = blocks-one (e .tx) k p in
-    record { trims-to = λ _. (m, first-entry (taken-view (free-law (w .sent) few s l) few SentData s (blocksFor (e .tx) k) a k one (omega (arith, r .ends)) s) one) }
+    let m = blocks-least (e .tx .size) k (entry (e .sent) s .count) (leb-true (k + 4) (entry (e .sent) s .count * e .tx .size) f) p in
+    let one = blocks-one (e .tx .size) k p in
+    record { trims-to = λ _. (m, first-entry (taken-view (free-law (w .sent) few s l) few SentData s (blocksFor (e .tx .size) k) a k one (omega (arith, r .ends)) s) one) }
 
 pub send-trims : SendTrims
 unfolding step rule

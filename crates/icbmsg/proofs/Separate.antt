@@ -11,19 +11,21 @@ use lib.Seq.{getD-set-same, getD-set-other}
 use borrow.Author.Tests.{eqb-true, eqb-false, leb-true}
 use Rattle.wire.specs.Choice.{pick}
 use Rattle.icbmsg.specs.Outcome.{Outcome}
-use Rattle.icbmsg.specs.Tables.{entry, freeEntry}
-use Rattle.icbmsg.specs.Endpoints.{noBinding, noEndpoint}
+use Rattle.blocks.specs.Tables.{entry, freeEntry}
+use Rattle.endpoints.specs.Endpoints.{noBinding, noEndpoint}
 use Rattle.icbmsg.specs.Ends.{isOpen, changed}
-use Rattle.icbmsg.specs.Opening.{Opening, Opened, opening, region, noRegion, fresh, freshOf, closedWith, txLayout, rxLayout}
+use Rattle.icbmsg.specs.Opening.{Opened, opening, region, noRegion, fresh, freshOf, closedWith, txLayout, rxLayout}
+use Rattle.icbmsg.specs.declared.Opening.{Opening}
 use Rattle.icbmsg.specs.Calls.{Call, step}
-use Rattle.icbmsg.specs.WellFormed.{leading, blockKind, IsFree, Live, InRun, WellFormed, sentRun, heldRun, bindingOf, IsStored, IsKept, Stored, Separate}
+use Rattle.blocks.specs.WellFormed.{leading, blockKind, IsFree, Live, InRun, WellFormed}
+use Rattle.icbmsg.specs.WellFormed.{sentRun, heldRun, bindingOf, IsStored, IsKept, Stored, Separate}
 use Rattle.icbmsg.specs.Theorems.{Part, Reached, opened, called, left, Covered, Separated, RunsDisjoint, BlocksCovered}
-use Rattle.icbmsg.proofs.Tables.{clash, one-run, Taken, its-first, its-later, apart, freed-live, freed-stays, taken-first, taken-stays, freed-view, taken-view, free-at, free-law, take-law, trim-law, fresh-entry, fresh-well-formed}
+use Rattle.blocks.proofs.Tables.{clash, one-run, Taken, its-first, its-later, apart, freed-live, freed-stays, taken-first, taken-stays, freed-view, taken-view, free-at, free-law, take-law, trim-law, fresh-entry, fresh-well-formed}
 use Rattle.icbmsg.proofs.Effects.{SentChange, takes, frees, trims, HeldChange, nothing, receives, finishes, stores, forgets, EndChange, writes, sends, keeps, Effect, refuses, accepts, sound, effect, stays, reads}
-use Rattle.icbmsg.specs.declared.Use.{Use}
-use Rattle.icbmsg.specs.declared.Use.the-variants.{Free, Inside, Reserved, SentData, SentBinding, ReceivedData, StoredBinding}
-use Rattle.icbmsg.specs.declared.Entry.{Entry}
-use Rattle.icbmsg.specs.declared.Binding.{Binding}
+use Rattle.blocks.specs.declared.Use.{Use}
+use Rattle.blocks.specs.declared.Use.the-variants.{Free, Inside, Reserved, SentData, SentBinding, ReceivedData, StoredBinding}
+use Rattle.blocks.specs.declared.Entry.{Entry}
+use Rattle.endpoints.specs.declared.Binding.{Binding}
 use Rattle.icbmsg.specs.declared.Region.{Region}
 use Rattle.icbmsg.specs.declared.End.{End}
 
@@ -243,7 +245,7 @@ pub data Opens (o : Opening) : Opened → Type 0 where
 
 pub how-opened : (o : Opening) → Opens o (opening o)
 unfolding opening
-how-opened o = go (eqb (txLayout o .number) 0) (eqb (rxLayout o .number) 0) (leb (o .txEnd) (o .rxBegin) || leb (o .rxEnd) (o .txBegin)) refl refl
+how-opened o = go (eqb (txLayout o .number) 0) (eqb (rxLayout o .number) 0) (leb (o .tx .end) (o .rx .begin) || leb (o .rx .end) (o .tx .begin)) refl refl
   where
     go : (t r d : Bool) → eqb (txLayout o .number) 0 ≡ t → eqb (rxLayout o .number) 0 ≡ r →
         Opens o (pick t (pick r (pick d (record { number = 0; end = freshOf o }) (closedWith 5)) (closedWith (rxLayout o .number))) (closedWith (txLayout o .number)))
@@ -254,7 +256,7 @@ how-opened o = go (eqb (txLayout o .number) 0) (eqb (rxLayout o .number) 0) (leb
 
 opened-separate : {o : Opening} {x : Opened} → Opens o x → Separate (x .end)
 opened-separate {o} (opens p q) =
-    fresh-separate (ltb (o .rxBegin) (o .txBegin)) (o .align) (region (o .txBegin) (o .txEnd) (o .txBlocks) (txLayout o)) (region (o .rxBegin) (o .rxEnd) (o .rxBlocks) (rxLayout o))
+    fresh-separate (ltb (o .rx .begin) (o .tx .begin)) (o .align) (region (o .tx) (txLayout o)) (region (o .rx) (rxLayout o))
 opened-separate (shuts n h) = fresh-separate false 0 noRegion noRegion
 
 -- ---- the theorem

@@ -16,20 +16,26 @@ use Rattle.icmsg.specs.Rules.{Outcome as RingOutcome, Answer, refused as ringNo
 use Rattle.icmsg.specs.declared.Ring.{Ring}
 use Rattle.icmsg.proofs.WritesInside.{writes-inside}
 use Rattle.icbmsg.specs.Outcome.{Outcome, ringRefused, check}
-use Rattle.icbmsg.specs.Tables.{Search, nowhere, foundAt, entry, starts, blocksFor, blockAt, freeRun}
-use Rattle.icbmsg.specs.Endpoints.{someEndpoint, boundAt}
-use Rattle.icbmsg.specs.Ends.{isOpen, whole, foundOr}
+use Rattle.blocks.specs.Search.{Search, nowhere, foundAt}
+use Rattle.blocks.specs.Tables.{entry, starts, blocksFor, freeRun}
+use Rattle.icbmsg.specs.Ends.{blockAt, isOpen, whole, foundOr}
+use Rattle.endpoints.specs.Endpoints.{someEndpoint, boundAt}
 use Rattle.icbmsg.specs.Rings.{ringOf, pushOutcome, pullOutcome, pushOf, startOf, pullRule}
 use Rattle.icbmsg.specs.Messages.{reserveOf, roomOf, sendOf, dropOf, viewOf, doneOf, roomQuestion, viewQuestion}
 use Rattle.icbmsg.specs.Registering.{followed, initiates, registerOf}
-use Rattle.icbmsg.specs.Arrivals.{Decoded, empty, unknownKind, tooShort, dataSent, dataReleased, bindingSent, bindingReleased, releaseOf, releasedBoundOf, boundTo, boundNamed, decodedRule, arrivalRule}
+use Rattle.icbmsg.specs.Arrivals.{releaseOf, releasedBoundOf, boundTo, boundNamed, decodedRule, arrivalRule}
+use Rattle.icbmsg.specs.declared.Control.{Control}
+use Rattle.icbmsg.specs.declared.Control.the-variants.{TooShort, UnknownKind, DataSent, DataReleased, BindingSent, BindingReleased}
 use Rattle.icbmsg.specs.Calls.{Call, start, push, pull, reserve, room, send, drop, arrival, view, done, register, askRoom, askView, rule, lent, step}
 use Rattle.icbmsg.specs.Theorems.{WritesInside}
-use Rattle.icbmsg.proofs.LeastBlocks.{blocks-hold}
+use Rattle.blocks.proofs.LeastBlocks.{blocks-hold}
 use Rattle.icbmsg.proofs.RulesRead.{pull-answer, answer-guard}
-use Rattle.icbmsg.proofs.Arrivals.{Name, endless, name, withName, bound-flat, data-flat}
-use Rattle.icbmsg.proofs.Effects.{sound, lowest-at, run-of, in-blocks, whole-open, size-pos}
-use Rattle.icbmsg.specs.declared.Use.the-variants.{Reserved}
+use Rattle.icbmsg.proofs.ArrivingBytes.{withName, bound-flat, data-flat}
+use Rattle.endpoints.specs.Names.{Name, endless, name}
+use Rattle.blocks.proofs.Tables.{run-of}
+use Rattle.icbmsg.proofs.Effects.{sound, in-blocks, whole-open, size-pos}
+use Rattle.blocks.proofs.Search.{lowest-at}
+use Rattle.blocks.specs.declared.Use.the-variants.{Reserved}
 use Rattle.icbmsg.specs.declared.End.{End}
 
 -- the slices that are lent have t, r and b bytes
@@ -70,7 +76,7 @@ read-within e false ws bs a h k = quiet
 
 pull-within : (e : End) (r : List ℕ) (b : ℕ) → Within 0 (length r) b (answer (pullRule e (length r) b) r)
 pull-within e r b =
-    let g : Ring = ringOf e (e .rx) in
+    let g : Ring = ringOf (e .align) (e .rx) in
     let o : RingOutcome = answer (ringPull (length r) g (e .read) b) r in
     rw (pull-answer e (length r) b r)
     (read-within e (whole e (e .rx) (length r)) (o .region) (o .buffer) (o .answer)
@@ -95,11 +101,11 @@ send-within : (e : End) (n s a k : ℕ) → Within n 0 0 (sendOf e n s a k)
 unfolding sendOf littleEndian
 send-within e n s a k =
     checked (whole e (e .tx) n) 6 e λ w.
-    checked (starts Reserved (e .tx) (e .sent) s) 25 e λ h.
+    checked (starts Reserved (e .tx .count) (e .sent) s) 25 e λ h.
     checked (someEndpoint (boundAt a) (e .endpoints)) 15 e λ _.
     checked (leb (k + 4) (entry (e .sent) s .count * e .tx .size)) 23 e λ f.
     record {
-      in-tx = run-inside e n s (entry (e .sent) s .count) k (littleEndian 4 k) w (run-of Reserved (e .tx) (e .sent) s h .ends) (leb-true _ _ f) (omega arith);
+      in-tx = run-inside e n s (entry (e .sent) s .count) k (littleEndian 4 k) w (run-of Reserved (e .tx .count) (e .sent) s h .ends) (leb-true _ _ f) (omega arith);
       in-rx = tt;
       in-buffer = tt;
     }
@@ -109,13 +115,13 @@ initiates-within : (e : End) (l : ℕ) (n : List ℕ) (i : ℕ) → whole e (e .
 unfolding initiates freeRun littleEndian
 initiates-within e l n i w =
     let k : ℕ = length n + 1 in
-    let m : ℕ = blocksFor (e .tx) k in
+    let m : ℕ = blocksFor (e .tx .size) k in
     checked (leb m (e .tx .count)) 23 e λ _.
-    found 24 e (freeRun (e .tx) (e .sent) m) λ s q.
+    found 24 e (freeRun (e .tx .count) (e .sent) m) λ s q.
     record {
       in-tx =
           run-inside e l s m k (littleEndian 4 k ++ n ++ (0 ∷ [])) w (lowest-at (e .tx .count) (e .sent) 0 m (e .tx .count) s q .room)
-          (blocks-hold (e .tx) k (size-pos e (whole-open e (e .tx) l w) .0)) (simp length-append (omega arith));
+          (blocks-hold (e .tx .size) k (size-pos e (whole-open e (e .tx) l w) .0)) (simp length-append (omega arith));
       in-rx = tt;
       in-buffer = tt;
     }
@@ -139,26 +145,25 @@ unfolding boundNamed
 named-within e a b n endless = quiet
 named-within e a b n (name cs) = search (checked, boundTo-within)
 
-decoded-within : {k : ℕ} (e : End) (l : Decoded) (r : List ℕ) → Within 0 k 0 (answer (decodedRule e l) r)
+decoded-within : {k : ℕ} (e : End) (l : Control) (r : List ℕ) → Within 0 k 0 (answer (decodedRule e l) r)
 unfolding releaseOf releasedBoundOf
-decoded-within e empty r = quiet
-decoded-within e unknownKind r = quiet
-decoded-within e tooShort r = quiet
-decoded-within e (dataSent a b) r = rw (data-flat e a b r) (search (checked, quiet) depth 6)
-decoded-within e (dataReleased b) r = search (checked, quiet)
-decoded-within e (bindingSent a b) r = rw (bound-flat e a b r) (search (checked, named-within) depth 6)
-decoded-within e (bindingReleased a b) r = search (checked, quiet)
+decoded-within e UnknownKind r = quiet
+decoded-within e TooShort r = quiet
+decoded-within e (DataSent a b) r = rw (data-flat e a b r) (search (checked, quiet) depth 6)
+decoded-within e (DataReleased b) r = search (checked, quiet)
+decoded-within e (BindingSent a b) r = rw (bound-flat e a b r) (search (checked, named-within) depth 6)
+decoded-within e (BindingReleased a b) r = search (checked, quiet)
 
 -- ---- each call
 
 within : (e : End) (c : Call) → Within (length (lent c .tx)) (length (lent c .rx)) (length (lent c .buffer)) (step e c)
 unfolding step rule lent startOf pushOf reserveOf roomOf dropOf viewOf doneOf roomQuestion viewQuestion arrivalRule
 within e (start tx) =
-    let o : RingOutcome = ringStart (length tx) (ringOf e (e .tx)) in
-    write-within e (whole e (e .tx) (length tx)) (o .region) (o .answer) (writes-inside .start (length tx) (ringOf e (e .tx)))
+    let o : RingOutcome = ringStart (length tx) (ringOf (e .align) (e .tx)) in
+    write-within e (whole e (e .tx) (length tx)) (o .region) (o .answer) (writes-inside .start (length tx) (ringOf (e .align) (e .tx)))
 within e (push tx c) =
-    let o : RingOutcome = ringPush tx (ringOf e (e .tx)) (e .write) c in
-    write-within e (whole e (e .tx) (length tx)) (o .region) (o .answer) (writes-inside .push tx (ringOf e (e .tx)) (e .write) c)
+    let o : RingOutcome = ringPush tx (ringOf (e .align) (e .tx)) (e .write) c in
+    write-within e (whole e (e .tx) (length tx)) (o .region) (o .answer) (writes-inside .push tx (ringOf (e .align) (e .tx)) (e .write) c)
 within e (pull rx b) = pull-within e rx (length b)
 within e (reserve k) = search (checked, found, quiet)
 within e (room tx s) = search (checked, quiet)

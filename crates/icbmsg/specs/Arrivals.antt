@@ -1,48 +1,53 @@
 -- The rules of arriving control messages (01, "Arriving control messages" and "Binding").
-use Prim.Native.Nat.{ℕ, zero, suc, _+_, _-_, _*_, min}
+use Prim.Native.Nat.{ℕ, zero, suc, _+_, _-_, _*_, _≤_, min}
 use mathlib.Core.Bool.{Bool, true, not, _&&_}
+use mathlib.Core.Path.{_≡_}
 use mathlib.Core.List.{List, [], _∷_}
 use lib.Dec.{leb, ltb, eqb}
-use lib.ListN.{length, getD, set}
-use Rattle.wire.specs.Choice.{pick}
-use Rattle.wire.specs.Bytes.{fromLittleEndian, straight, positions}
+use lib.ListN.{length, set}
+use Rattle.wire.specs.Choice.{pick, check as numbered}
+use Rattle.wire.specs.Bytes.{fromLittleEndian, straight, positions, bytesAt}
 use Rattle.wire.specs.Reads.{gives, reads, readEach}
+use Rattle.refusal.specs.Numbers.{numberOf}
+use Rattle.blocks.specs.declared.Entry.{Entry}
 use Rattle.icbmsg.specs.Outcome.{Outcome, refused, accepted, Rule, check, guard}
-use Rattle.icbmsg.specs.Tables.{Search, nowhere, foundAt, entry, starts, allFree, freed, taken, blocksFor, blockAt}
-use Rattle.icbmsg.specs.Endpoints.{paddedName, noEndpoint, isWaiting, at, boundAt, waitingFor, clashes, clashesStored, endpointAt, bindingAt, someEndpoint, someBinding}
-use Rattle.icbmsg.specs.Ends.{whole, foundOr, changed, withSent, withHeld}
+use Rattle.blocks.specs.Search.{Search, nowhere, foundAt}
+use Rattle.blocks.specs.Tables.{entry, starts, allFree, freed, taken, blocksFor}
+use Rattle.icbmsg.specs.Ends.{blockAt, whole, foundOr, changed, withSent, withHeld}
+use Rattle.endpoints.specs.Endpoints.{paddedName, at, boundAt, waitingFor, waitingAt, boundNow, clashes, clashesStored, endpointAt, bindingAt, someEndpoint, someBinding}
 use Rattle.icbmsg.specs.Registering.{become}
-use Rattle.icbmsg.specs.declared.Use.the-variants.{SentData, SentBinding, ReceivedData, StoredBinding}
-use Rattle.icbmsg.specs.declared.Stage.the-variants.{Bound}
-use Rattle.icbmsg.specs.declared.Endpoint.{Endpoint}
+use Rattle.blocks.specs.declared.Use.the-variants.{SentData, SentBinding, ReceivedData, StoredBinding}
+use Rattle.endpoints.specs.declared.Stage.the-variants.{Bound}
+use Rattle.icbmsg.specs.declared.Control.{Control}
+use Rattle.icbmsg.specs.declared.Control.the-variants.{TooShort, UnknownKind, DataSent, DataReleased, BindingSent, BindingReleased}
+use Rattle.icbmsg.specs.declared.Measured.{Measured}
+use Rattle.icbmsg.specs.declared.Measured.the-variants.{Fits}
+use Rattle.icbmsg.specs.declared.Region.{Region}
 use Rattle.icbmsg.specs.declared.End.{End}
 
 -- "Only the first three bytes are used." "Empty: 12. First byte above 3: 13. Known kind with under three bytes: 12"
-pub data Decoded : Type 0 where
-  empty unknownKind tooShort : Decoded
-  dataSent : ℕ → ℕ → Decoded
-  dataReleased : ℕ → Decoded
-  bindingSent : ℕ → ℕ → Decoded
-  bindingReleased : ℕ → ℕ → Decoded
+abbrev pub kind : ℕ → ℕ → ℕ → Control
+kind k a b = pick (eqb k 0) (DataSent a b) (pick (eqb k 1) (DataReleased b) (pick (eqb k 2) (BindingSent a b) (BindingReleased a b)))
 
-abbrev pub kind : ℕ → ℕ → ℕ → Decoded
-kind k a b = pick (eqb k 0) (dataSent a b) (pick (eqb k 1) (dataReleased b) (pick (eqb k 2) (bindingSent a b) (bindingReleased a b)))
+abbrev pub decode : List ℕ → Control
+decode [] = TooShort
+decode (k ∷ []) = pick (ltb 3 k) UnknownKind TooShort
+decode (k ∷ a ∷ []) = pick (ltb 3 k) UnknownKind TooShort
+decode (k ∷ a ∷ b ∷ m) = pick (ltb 3 k) UnknownKind (kind k a b)
 
-abbrev pub decode : List ℕ → Decoded
-decode [] = empty
-decode (k ∷ []) = pick (ltb 3 k) unknownKind tooShort
-decode (k ∷ a ∷ []) = pick (ltb 3 k) unknownKind tooShort
-decode (k ∷ a ∷ b ∷ m) = pick (ltb 3 k) unknownKind (kind k a b)
+abbrev pub headerAt : Region → ℕ → List ℕ
+headerAt g b = positions (straight (blockAt g b)) 4
 
-abbrev pub headerAt : End → ℕ → List ℕ
-headerAt e b = positions (straight (blockAt (e .rx) b)) 4
+-- K of the message in receive block b
+abbrev pub sizeAt : Region → ℕ → List ℕ → ℕ
+sizeAt g b r = fromLittleEndian (bytesAt r (headerAt g b))
 
 -- 17: K + 4 ends with the last block. 18: its blocks are free
-abbrev pub fitsArea : End → ℕ → ℕ → Bool
-fitsArea e b k = leb (k + 4) ((e .rx .count - b) * e .rx .size)
+abbrev pub fitsArea : Region → ℕ → ℕ → Bool
+fitsArea g b k = leb (k + 4) ((g .count - b) * g .size)
 
-abbrev pub areFree : End → ℕ → ℕ → Bool
-areFree e b k = allFree (e .held) b (blocksFor (e .rx) k)
+abbrev pub areFree : List Entry → Region → ℕ → ℕ → Bool
+areFree t g b k = allFree t b (blocksFor (g .size) k)
 
 -- kind 0: "14, 15, 16, 17, 18"; "start, count and K recorded". "The size is read once, at arrival"
 unfoldable pub dataRule : End → ℕ → ℕ → Rule
@@ -50,48 +55,43 @@ dataRule e a b =
     guard (leb a 0xFD) 14 e
     (guard (someEndpoint (boundAt a) (e .endpoints)) 15 e
     (guard (ltb b (e .rx .count)) 16 e
-    (readEach (headerAt e b) (λ h. let k : ℕ = fromLittleEndian h in
-    guard (fitsArea e b k) 17 e
-    (guard (areFree e b k) 18 e
-    (gives (accepted (withHeld e (taken (e .held) ReceivedData b (blocksFor (e .rx) k) a k)) (a ∷ b ∷ k ∷ []))))))))
+    (readEach (headerAt (e .rx) b) (λ h. let k : ℕ = fromLittleEndian h in
+    guard (fitsArea (e .rx) b k) 17 e
+    (guard (areFree (e .held) (e .rx) b k) 18 e
+    (gives (accepted (withHeld e (taken (e .held) ReceivedData b (blocksFor (e .rx .size) k) a k)) (a ∷ b ∷ k ∷ []))))))))
 
 -- kind 1: "16, 25"; "frees a sent data message". "A partner's release frees the count recorded privately"
 unfoldable pub releaseOf : End → ℕ → Outcome
 releaseOf e b =
     check (ltb b (e .tx .count)) 16 e
-    (check (starts SentData (e .tx) (e .sent) b) 25 e
+    (check (starts SentData (e .tx .count) (e .sent) b) 25 e
     (accepted (withSent e (freed (e .sent) b (entry (e .sent) b .count))) []))
-
--- the waiting endpoint with the address is bound
-abbrev pub boundNow : List Endpoint → ℕ → Search → List Endpoint
-boundNow ps a nowhere = ps
-boundNow ps a (foundAt i) = set ps i (record { stage = Bound; address = a; name = (getD ps i noEndpoint) .name })
-
-abbrev pub waitingAt : ℕ → Endpoint → Bool
-waitingAt a p = at isWaiting p && eqb (p .address) a
 
 -- kind 3: "14, 16, 25"; "frees a sent binding of that address; its endpoint is bound"
 unfoldable pub releasedBoundOf : End → ℕ → ℕ → Outcome
 releasedBoundOf e a b =
     check (leb a 0xFD) 14 e
     (check (ltb b (e .tx .count)) 16 e
-    (check (starts SentBinding (e .tx) (e .sent) b && eqb (entry (e .sent) b .address) a) 25 e
+    (check (starts SentBinding (e .tx .count) (e .sent) b && eqb (entry (e .sent) b .address) a) 25 e
     (accepted
     (changed e (e .write) (e .read) (freed (e .sent) b (entry (e .sent) b .count)) (e .held)
     (boundNow (e .endpoints) a (endpointAt (waitingAt a) (e .endpoints))) (e .bindings))
     [])))
 
--- "else name, address, start and count are stored, not K, and its blocks are held": n blocks, at place j
+-- "else name, address, start and count are stored, not K, and its blocks are held": n blocks, the padded name, at place j
 abbrev pub bindingStored : End → ℕ → ℕ → ℕ → List ℕ → ℕ → Outcome
-bindingStored e a b n name j =
+bindingStored e a b n kept j =
     accepted
     (changed e (e .write) (e .read) (e .sent) (taken (e .held) StoredBinding b n a 0) (e .endpoints)
-    (set (e .bindings) j (record { stored = true; address = a; start = b; count = n; name = paddedName name })))
+    (set (e .bindings) j (record { stored = true; address = a; start = b; count = n; name = kept })))
     []
+
+abbrev pub storedAt : End → ℕ → ℕ → ℕ → List ℕ → Outcome
+storedAt e a b n kept = foundOr 22 e (bindingStored e a b n kept) (bindingAt (λ x. not (x .stored)) (e .bindings))
 
 -- "If a waiting endpoint has the name, it is bound with the same answer"
 abbrev pub boundTo : End → ℕ → ℕ → ℕ → List ℕ → Search → Outcome
-boundTo e a b n name nowhere = foundOr 22 e (bindingStored e a b n name) (bindingAt (λ x. not (x .stored)) (e .bindings))
+boundTo e a b n name nowhere = storedAt e a b n (paddedName name)
 boundTo e a b n name (foundAt i) =
     accepted (changed e (e .write) (e .read) (e .sent) (e .held) (become e i Bound a name) (e .bindings)) (3 ∷ a ∷ b ∷ [])
 
@@ -110,9 +110,9 @@ upToZero e (suc n) p k = reads p (λ c. pick (eqb c 0) (k []) (upToZero e n (suc
 -- 17, 18, with K
 unfoldable pub boundSized : End → ℕ → ℕ → ℕ → Rule
 boundSized e a b k =
-    guard (fitsArea e b k) 17 e
-    (guard (areFree e b k) 18 e
-    (upToZero e (min k 32) (blockAt (e .rx) b + 4) (λ name. gives (boundNamed e a b (blocksFor (e .rx) k) name))))
+    guard (fitsArea (e .rx) b k) 17 e
+    (guard (areFree (e .held) (e .rx) b k) 18 e
+    (upToZero e (min k 32) (blockAt (e .rx) b + 4) (λ name. gives (boundNamed e a b (blocksFor (e .rx .size) k) name))))
 
 -- kind 2: "19, 14, 16, 17, 18, 20, 21, 22"
 unfoldable pub boundRule : End → ℕ → ℕ → Rule
@@ -120,16 +120,37 @@ boundRule e a b =
     guard (not (e .initiator)) 19 e
     (guard (leb a 0xFD) 14 e
     (guard (ltb b (e .rx .count)) 16 e
-    (readEach (headerAt e b) (λ h. boundSized e a b (fromLittleEndian h)))))
+    (readEach (headerAt (e .rx) b) (λ h. boundSized e a b (fromLittleEndian h)))))
 
-abbrev pub decodedRule : End → Decoded → Rule
-decodedRule e empty = gives (refused e 12)
-decodedRule e unknownKind = gives (refused e 13)
-decodedRule e tooShort = gives (refused e 12)
-decodedRule e (dataSent a b) = dataRule e a b
-decodedRule e (dataReleased b) = gives (releaseOf e b)
-decodedRule e (bindingSent a b) = boundRule e a b
-decodedRule e (bindingReleased a b) = gives (releasedBoundOf e a b)
+abbrev pub decodedRule : End → Control → Rule
+decodedRule e UnknownKind = gives (refused e 13)
+decodedRule e TooShort = gives (refused e 12)
+decodedRule e (DataSent a b) = dataRule e a b
+decodedRule e (DataReleased b) = gives (releaseOf e b)
+decodedRule e (BindingSent a b) = boundRule e a b
+decodedRule e (BindingReleased a b) = gives (releasedBoundOf e a b)
 
 unfoldable pub arrivalRule : End → ℕ → List ℕ → Rule
 arrivalRule e n m = guard (whole e (e .rx) n) 6 e (decodedRule e (decode m))
+
+-- ---- what the code's measure of an arriving message answers
+
+-- 16, 17, 18, for K bytes in block b of a region whose table is t
+abbrev pub placeNumber : Region → List Entry → ℕ → ℕ → ℕ
+placeNumber g t b k = numbered (ltb b (g .count)) 16 (numbered (fitsArea g b k) 17 (numbered (areFree t g b k) 18 0))
+
+abbrev pub measuredNumber : Measured → ℕ
+measuredNumber (Measured.Refused x) = numberOf x
+measuredNumber (Fits k n) = 0
+
+-- K, and its blocks, which lie inside
+abbrev pub MeasuredAs : Measured → Region → ℕ → ℕ → Type 0
+MeasuredAs (Measured.Refused x) g b k = Unit {0}
+MeasuredAs (Fits m n) g b k = (m ≡ k) × (n ≡ blocksFor (g .size) k) × (1 ≤ n) × (b + n ≤ g .count) × (k + 4 ≤ n * g .size)
+
+-- n bytes are lent of a region, and its blocks lie in them
+pub record Lent (n : ℕ) (g : Region) : Type 0 where
+  pub size : 4 ≤ g .size
+  pub few : g .count ≤ 256
+  pub blocks : g .blocks + g .count * g .size ≤ n
+  pub bytes : n ≤ 1048576

@@ -12,11 +12,11 @@ use Rattle.icbmsg.specs.declared.End.{End}
 
 -- the end that transmits in the region of 16 blocks; with its receive region below, it is an initiator
 abbrev pub initiator : End
-initiator = opening (record { align = 32; txBegin = 0x20070000; txEnd = 0x20070800; txBlocks = 16; rxBegin = 0x20060000; rxEnd = 0x20060800; rxBlocks = 32 }) .end
+initiator = opening (record { align = 32; tx = record { begin = 0x20070000; end = 0x20070800; blocks = 16 }; rx = record { begin = 0x20060000; end = 0x20060800; blocks = 32 } }) .end
 
 -- its partner
 abbrev pub follower : End
-follower = opening (record { align = 32; txBegin = 0x20060000; txEnd = 0x20060800; txBlocks = 32; rxBegin = 0x20070000; rxEnd = 0x20070800; rxBlocks = 16 }) .end
+follower = opening (record { align = 32; tx = record { begin = 0x20060000; end = 0x20060800; blocks = 32 }; rx = record { begin = 0x20070000; end = 0x20070800; blocks = 16 } }) .end
 
 -- the name `example`, and a region of zeros
 abbrev pub example : List ℕ

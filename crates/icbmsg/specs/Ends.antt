@@ -5,10 +5,10 @@ use mathlib.Core.List.{List, [], _∷_, _++_}
 use lib.Dec.{leb, eqb}
 use Rattle.icmsg.specs.Ring.{inRule}
 use Rattle.icbmsg.specs.Outcome.{Outcome, refused}
-use Rattle.icbmsg.specs.Tables.{all, Search, nowhere, foundAt}
-use Rattle.icbmsg.specs.declared.Entry.{Entry}
-use Rattle.icbmsg.specs.declared.Endpoint.{Endpoint}
-use Rattle.icbmsg.specs.declared.Binding.{Binding}
+use Rattle.blocks.specs.Search.{all, Search, nowhere, foundAt}
+use Rattle.blocks.specs.declared.Entry.{Entry}
+use Rattle.endpoints.specs.declared.Endpoint.{Endpoint}
+use Rattle.endpoints.specs.declared.Binding.{Binding}
 use Rattle.icbmsg.specs.declared.Region.{Region}
 use Rattle.icbmsg.specs.declared.End.{End}
 
@@ -26,11 +26,15 @@ soundRegion a g =
     ∷ []
 
 -- the alignment, the own indexes and both regions
+abbrev pub soundNumbers : ℕ → Region → Region → ℕ → ℕ → List Bool
+soundNumbers a t r write read =
+    leb 4 a ∷ leb a 256 ∷ eqb (a % 4) 0 ∷ inRule (t .ring) write ∷ inRule (r .ring) read ∷ soundRegion a t ++ soundRegion a r
+
 abbrev pub soundEnd : End → List Bool
-soundEnd e =
-    leb 4 (e .align) ∷ leb (e .align) 256 ∷ eqb (e .align % 4) 0
-    ∷ inRule (e .tx .ring) (e .write) ∷ inRule (e .rx .ring) (e .read)
-    ∷ soundRegion (e .align) (e .tx) ++ soundRegion (e .align) (e .rx)
+soundEnd e = soundNumbers (e .align) (e .tx) (e .rx) (e .write) (e .read)
+
+abbrev pub openNumbers : ℕ → Region → Region → ℕ → ℕ → Bool
+openNumbers a t r write read = all (soundNumbers a t r write read)
 
 -- A closed end, all numbers zero, fails it, and so does every end whose numbers would lead outside its regions.
 unfoldable pub isOpen : End → Bool
@@ -39,6 +43,10 @@ isOpen e = all (soundEnd e)
 -- 6: n is the length of the slice that is lent of the region g
 abbrev pub whole : End → Region → ℕ → Bool
 whole e g n = isOpen e && eqb n (g .bytes)
+
+-- where block s of the region g begins in the lent slice
+abbrev pub blockAt : Region → ℕ → ℕ
+blockAt g s = g .blocks + s * g .size
 
 -- what is done where a search ends, and the number where it ends nowhere
 abbrev pub foundOr : ℕ → End → (ℕ → Outcome) → Search → Outcome

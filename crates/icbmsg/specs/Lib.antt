@@ -1,7 +1,5 @@
-pub mod Answers
 pub mod Outcome
-pub mod Tables
-pub mod Endpoints
+pub mod Answers
 pub mod Ends
 pub mod Opening
 pub mod Rings

@@ -4,14 +4,14 @@ use mathlib.Core.Bool.{Bool, true, not}
 use mathlib.Core.Path.{_≡_}
 use mathlib.Core.List.{List}
 use lib.ListN.{getD}
-use Rattle.icbmsg.specs.Tables.{entry}
-use Rattle.icbmsg.specs.Endpoints.{noEndpoint, at, isUnused, isWaiting, isBound}
+use Rattle.blocks.specs.Tables.{entry}
+use Rattle.endpoints.specs.Endpoints.{noEndpoint, at, isUnused, isWaiting, isBound}
 use Rattle.icbmsg.specs.WellFormed.{bindingOf, IsKept}
 use Rattle.icbmsg.specs.Theorems.{Reached}
-use Rattle.icbmsg.specs.declared.Use.the-variants.{SentBinding}
-use Rattle.icbmsg.specs.declared.Entry.{Entry}
-use Rattle.icbmsg.specs.declared.Endpoint.{Endpoint}
-use Rattle.icbmsg.specs.declared.Binding.{Binding}
+use Rattle.blocks.specs.declared.Use.the-variants.{SentBinding}
+use Rattle.blocks.specs.declared.Entry.{Entry}
+use Rattle.endpoints.specs.declared.Endpoint.{Endpoint}
+use Rattle.endpoints.specs.declared.Binding.{Binding}
 use Rattle.icbmsg.specs.declared.End.{End}
 
 abbrev pub endpointOf : List Endpoint → ℕ → Endpoint

@@ -7,10 +7,12 @@ use lib.ListN.{length, getD}
 use Rattle.wire.specs.Choice.{pick}
 use Rattle.wire.specs.Reads.{Agree}
 use Rattle.icbmsg.specs.Outcome.{Outcome, refused}
-use Rattle.icbmsg.specs.Tables.{blocksFor}
+use Rattle.blocks.specs.Tables.{blocksFor}
 use Rattle.icbmsg.specs.Ends.{isOpen}
-use Rattle.icbmsg.specs.Opening.{Opening, opening}
-use Rattle.icbmsg.specs.Arrivals.{bindingSent, decode}
+use Rattle.icbmsg.specs.Opening.{opening}
+use Rattle.icbmsg.specs.declared.Opening.{Opening}
+use Rattle.icbmsg.specs.Arrivals.{decode}
+use Rattle.icbmsg.specs.declared.Control.the-variants.{BindingSent}
 use Rattle.icbmsg.specs.Calls.{Call, pull, arrival, view, step, run}
 use Rattle.icbmsg.specs.Reading.{reading, sizeIn, contentAt}
 use Rattle.icbmsg.specs.declared.End.{End}
@@ -27,14 +29,14 @@ pub record Grown (e : End) (b : ℕ) (r r′ : List ℕ) : Type 0 where
   pub early : zeroAt < 32
   pub ended : getD r (contentAt e b + zeroAt) 0 ≡ 0
   pub larger : sizeIn e b r ≤ sizeIn e b r′
-  pub blocks : blocksFor (e .rx) (sizeIn e b r′) ≡ blocksFor (e .rx) (sizeIn e b r)
+  pub blocks : blocksFor (e .rx .size) (sizeIn e b r′) ≡ blocksFor (e .rx .size) (sizeIn e b r)
   pub stays : (i : ℕ) → i < sizeIn e b r → getD r′ (contentAt e b + i) 0 ≡ getD r (contentAt e b + i) 0
 
 -- A call on the end e and the same call from a newer partner. Any number of changes at once is `both`.
 pub data Change (e : End) : Call → Call → Type 0 where
   unchanged : {c : Call} → Change e c c
   longer : {rx m : List ℕ} (more : List ℕ) → 3 ≤ length m → Change e (arrival rx m) (arrival rx (m ++ more))
-  grown : {r r′ m : List ℕ} (a b : ℕ) → decode m ≡ bindingSent a b → Grown e b r r′ → Change e (arrival r m) (arrival r′ m)
+  grown : {r r′ m : List ℕ} (a b : ℕ) → decode m ≡ BindingSent a b → Grown e b r r′ → Change e (arrival r m) (arrival r′ m)
   pulls : {r r′ b : List ℕ} → length r ≡ length r′ → Agree (reading e (pull r b)) r r′ → Change e (pull r b) (pull r′ b)
   arrives : {r r′ m : List ℕ} → length r ≡ length r′ → Agree (reading e (arrival r m)) r r′ → Change e (arrival r m) (arrival r′ m)
   views : {r r′ : List ℕ} {s : ℕ} → length r ≡ length r′ → Change e (view r s) (view r′ s)

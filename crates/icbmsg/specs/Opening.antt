@@ -5,29 +5,31 @@ use lib.Dec.{leb, ltb, eqb}
 use lib.ListN.{replicate}
 use Rattle.wire.specs.Choice.{pick}
 use Rattle.region.specs.Layout.{Outcome as Layout, layout}
-use Rattle.icbmsg.specs.Tables.{freeEntry}
-use Rattle.icbmsg.specs.Endpoints.{noEndpoint, noBinding}
+use Rattle.blocks.specs.Tables.{freeEntry}
+use Rattle.endpoints.specs.Endpoints.{noEndpoint, noBinding}
+use Rattle.icbmsg.specs.Answers.{answerNumber}
+use Rattle.icbmsg.specs.declared.Bounds.{Bounds}
+use Rattle.icbmsg.specs.declared.Opening.{Opening}
+use Rattle.icbmsg.specs.declared.Called.{Called}
 use Rattle.icbmsg.specs.declared.Region.{Region}
 use Rattle.icbmsg.specs.declared.End.{End}
 
--- what an opening is given
-pub record Opening : Type 0 where
-  pub align : ℕ
-  pub txBegin : ℕ
-  pub txEnd : ℕ
-  pub txBlocks : ℕ
-  pub rxBegin : ℕ
-  pub rxEnd : ℕ
-  pub rxBlocks : ℕ
-
+-- "Opening an end checks ..": its number, and the end
 pub record Opened : Type 0 where
   pub number : ℕ
   pub end : End
 
 -- the numbers of a region that is laid out so; its first byte, at the raw begin, is position 0
-abbrev pub region : ℕ → ℕ → ℕ → Layout → Region
-region begin end l y =
-    record { bytes = end - begin; base = y .begin - begin; ring = y .dataLength; blocks = y .blocksBegin - begin; count = l; size = y .blockSize }
+abbrev pub region : Bounds → Layout → Region
+region b y =
+    record {
+      bytes = b .end - b .begin;
+      base = y .begin - b .begin;
+      ring = y .dataLength;
+      blocks = y .blocksBegin - b .begin;
+      count = b .blocks;
+      size = y .blockSize;
+    }
 
 abbrev pub noRegion : Region
 noRegion = record { bytes = 0; base = 0; ring = 0; blocks = 0; count = 0; size = 0 }
@@ -53,25 +55,29 @@ abbrev pub closedWith : ℕ → Opened
 closedWith n = record { number = n; end = fresh false 0 noRegion noRegion }
 
 abbrev pub txLayout : Opening → Layout
-txLayout o = layout (o .txBegin) (o .txEnd) (o .txBlocks) (o .rxBlocks) (o .align)
+txLayout o = layout (o .tx .begin) (o .tx .end) (o .tx .blocks) (o .rx .blocks) (o .align)
 
 abbrev pub rxLayout : Opening → Layout
-rxLayout o = layout (o .rxBegin) (o .rxEnd) (o .rxBlocks) (o .txBlocks) (o .align)
+rxLayout o = layout (o .rx .begin) (o .rx .end) (o .rx .blocks) (o .tx .blocks) (o .align)
 
 -- "receive begin below transmit begin is initiator"
 abbrev pub freshOf : Opening → End
 freshOf o =
-    fresh (ltb (o .rxBegin) (o .txBegin)) (o .align)
-    (region (o .txBegin) (o .txEnd) (o .txBlocks) (txLayout o))
-    (region (o .rxBegin) (o .rxEnd) (o .rxBlocks) (rxLayout o))
+    fresh (ltb (o .rx .begin) (o .tx .begin)) (o .align)
+    (region (o .tx) (txLayout o))
+    (region (o .rx) (rxLayout o))
 
 -- "checks transmit, then receive, each in the order 1, 2, 3, 4, then 5 over both"
 unfoldable pub opening : Opening → Opened
 opening o =
     pick (eqb (txLayout o .number) 0)
     (pick (eqb (rxLayout o .number) 0)
-    (pick (leb (o .txEnd) (o .rxBegin) || leb (o .rxEnd) (o .txBegin))
+    (pick (leb (o .tx .end) (o .rx .begin) || leb (o .rx .end) (o .tx .begin))
     (record { number = 0; end = freshOf o })
     (closedWith 5))
     (closedWith (rxLayout o .number)))
     (closedWith (txLayout o .number))
+
+-- what the code's opening answers
+abbrev pub openedOf : Called → Opened
+openedOf c = record { number = answerNumber (c .answer); end = c .end }

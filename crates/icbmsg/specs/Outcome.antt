@@ -38,6 +38,11 @@ written e vs ws = record { number = 0; values = vs; begin = 0; size = 0; tx = ws
 abbrev pub placed : End → ℕ → ℕ → Outcome
 placed e b n = record { number = 0; values = []; begin = b; size = n; tx = []; rx = []; buffer = []; next = e }
 
+-- an outcome but for what is written: a contract says that of each lent slice on its own
+abbrev pub withoutWrites : Outcome → Outcome
+withoutWrites o =
+    record { number = o .number; values = o .values; begin = o .begin; size = o .size; tx = []; rx = []; buffer = []; next = o .next }
+
 -- a rule of an end reads receive bytes, and gives an outcome
 abbrev pub Rule : Type 0
 Rule = Reads Outcome

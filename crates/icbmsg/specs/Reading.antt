@@ -4,17 +4,18 @@ use mathlib.Core.List.{List, [], _∷_, _++_}
 use lib.Dec.{eqb}
 use lib.ListN.{length, getD}
 use Rattle.wire.specs.Choice.{pick}
-use Rattle.wire.specs.Bytes.{fromLittleEndian, bytesAt}
 use Rattle.icmsg.specs.Reading.{past, pullReads}
-use Rattle.icbmsg.specs.Tables.{blockAt}
+use Rattle.icbmsg.specs.Ends.{blockAt}
 use Rattle.icbmsg.specs.Rings.{ringOf}
-use Rattle.icbmsg.specs.Arrivals.{Decoded, empty, unknownKind, tooShort, dataSent, dataReleased, bindingSent, bindingReleased, decode, headerAt}
+use Rattle.icbmsg.specs.Arrivals.{decode, headerAt, sizeAt}
+use Rattle.icbmsg.specs.declared.Control.{Control}
+use Rattle.icbmsg.specs.declared.Control.the-variants.{TooShort, UnknownKind, DataSent, DataReleased, BindingSent, BindingReleased}
 use Rattle.icbmsg.specs.Calls.{Call, start, push, pull, reserve, room, send, drop, arrival, view, done, register, askRoom, askView, step}
 use Rattle.icbmsg.specs.declared.End.{End}
 
 -- K of the message in receive block b, and where its content begins
 abbrev pub sizeIn : End → ℕ → List ℕ → ℕ
-sizeIn e b r = fromLittleEndian (bytesAt r (headerAt e b))
+sizeIn e b r = sizeAt (e .rx) b r
 
 abbrev pub contentAt : End → ℕ → ℕ
 contentAt e b = blockAt (e .rx) b + 4
@@ -25,21 +26,20 @@ zeroEnded zero p r = []
 zeroEnded (suc n) p r = p ∷ pick (eqb (getD r p 0) 0) [] (zeroEnded n (suc p) r)
 
 -- an arrival of kind 0 or 2, past 16 the four header bytes, and of kind 2, past 18, the name as far as its first zero
-abbrev pub arrivalReads : End → List ℕ → ℕ → Decoded → List ℕ
-arrivalReads e r n empty = []
-arrivalReads e r n unknownKind = []
-arrivalReads e r n tooShort = []
-arrivalReads e r n (dataSent a b) = past (6 ∷ 14 ∷ 15 ∷ 16 ∷ []) n (headerAt e b)
-arrivalReads e r n (dataReleased b) = []
-arrivalReads e r n (bindingSent a b) =
-    past (6 ∷ 19 ∷ 14 ∷ 16 ∷ []) n (headerAt e b)
+abbrev pub arrivalReads : End → List ℕ → ℕ → Control → List ℕ
+arrivalReads e r n UnknownKind = []
+arrivalReads e r n TooShort = []
+arrivalReads e r n (DataSent a b) = past (6 ∷ 14 ∷ 15 ∷ 16 ∷ []) n (headerAt (e .rx) b)
+arrivalReads e r n (DataReleased b) = []
+arrivalReads e r n (BindingSent a b) =
+    past (6 ∷ 19 ∷ 14 ∷ 16 ∷ []) n (headerAt (e .rx) b)
     ++ past (6 ∷ 19 ∷ 14 ∷ 16 ∷ 17 ∷ 18 ∷ []) n (zeroEnded (min (sizeIn e b r) 32) (contentAt e b) r)
-arrivalReads e r n (bindingReleased a b) = []
+arrivalReads e r n (BindingReleased a b) = []
 
 unfoldable pub reading : End → Call → List ℕ
 reading e (start tx) = []
 reading e (push tx c) = []
-reading e (pull r b) = pullReads (ringOf e (e .rx)) (e .read) (length b) r (step e (pull r b) .number)
+reading e (pull r b) = pullReads (ringOf (e .align) (e .rx)) (e .read) (length b) r (step e (pull r b) .number)
 reading e (reserve k) = []
 reading e (room tx s) = []
 reading e (send tx s a k) = []

@@ -7,14 +7,15 @@ use lib.ListN.{length, getD, set}
 use Rattle.wire.specs.Choice.{pick}
 use Rattle.wire.specs.Bytes.{littleEndian, straight, writes}
 use Rattle.icbmsg.specs.Outcome.{Outcome, accepted, written, check}
-use Rattle.icbmsg.specs.Tables.{Search, nowhere, foundAt, freed, taken, blocksFor, blockAt, freeRun}
-use Rattle.icbmsg.specs.Endpoints.{paddedName, noBinding, isUnused, at, registered, holds, endpointAt, bindingAt, someEndpoint, unusedFrom, goodName}
-use Rattle.icbmsg.specs.Ends.{whole, foundOr, changed}
-use Rattle.icbmsg.specs.declared.Use.the-variants.{SentBinding}
-use Rattle.icbmsg.specs.declared.Stage.{Stage}
-use Rattle.icbmsg.specs.declared.Stage.the-variants.{Waiting, Bound}
-use Rattle.icbmsg.specs.declared.Endpoint.{Endpoint}
-use Rattle.icbmsg.specs.declared.Binding.{Binding}
+use Rattle.blocks.specs.Search.{Search, nowhere, foundAt}
+use Rattle.blocks.specs.Tables.{freed, taken, blocksFor, freeRun}
+use Rattle.icbmsg.specs.Ends.{blockAt, whole, foundOr, changed}
+use Rattle.endpoints.specs.Endpoints.{paddedName, noBinding, isUnused, at, registered, holds, endpointAt, bindingAt, someEndpoint, unusedFrom, goodName}
+use Rattle.blocks.specs.declared.Use.the-variants.{SentBinding}
+use Rattle.endpoints.specs.declared.Stage.{Stage}
+use Rattle.endpoints.specs.declared.Stage.the-variants.{Waiting, Bound}
+use Rattle.endpoints.specs.declared.Endpoint.{Endpoint}
+use Rattle.endpoints.specs.declared.Binding.{Binding}
 use Rattle.icbmsg.specs.declared.End.{End}
 
 -- endpoint i becomes this
@@ -47,9 +48,9 @@ followed e n i (foundAt j) = boundToStored e n i j (getD (e .bindings) j noBindi
 -- "gives the lowest unused address, then reserves (23, 24)"
 unfoldable pub initiates : End → List ℕ → ℕ → Outcome
 initiates e n i =
-    check (leb (blocksFor (e .tx) (length n + 1)) (e .tx .count)) 23 e
-    (foundOr 24 e (λ s. announcement e n i (unusedFrom 8 0 (e .endpoints)) (blocksFor (e .tx) (length n + 1)) s)
-    (freeRun (e .tx) (e .sent) (blocksFor (e .tx) (length n + 1))))
+    check (leb (blocksFor (e .tx .size) (length n + 1)) (e .tx .count)) 23 e
+    (foundOr 24 e (λ s. announcement e n i (unusedFrom 8 0 (e .endpoints)) (blocksFor (e .tx .size) (length n + 1)) s)
+    (freeRun (e .tx .count) (e .sent) (blocksFor (e .tx .size) (length n + 1))))
 
 -- "Register checks 20, 21, 22": l bytes are lent, the name is n
 unfoldable pub registerOf : End → ℕ → List ℕ → Outcome
@@ -58,5 +59,5 @@ registerOf e l n =
     (check (goodName n) 20 e
     (check (not (someEndpoint (registered n) (e .endpoints))) 21 e
     (foundOr 22 e
-    (λ i. pick (e .initiator) (initiates e n i) (followed e n i (bindingAt (holds (e .rx) n) (e .bindings))))
+    (λ i. pick (e .initiator) (initiates e n i) (followed e n i (bindingAt (holds (e .rx .count) n) (e .bindings))))
     (endpointAt (at isUnused) (e .endpoints)))))

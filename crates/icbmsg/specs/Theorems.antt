@@ -7,17 +7,22 @@ use mathlib.Core.List.{List, [], _∷_}
 use lib.Dec.{eqb}
 use Rattle.wire.specs.Bytes.{same, Inside}
 use Rattle.icbmsg.specs.Outcome.{Outcome, refusedWith, refused, accepted}
-use Rattle.icbmsg.specs.Tables.{foundAt, entry, starts, startsData, runEntry, taken, blocksFor, inUse}
-use Rattle.icbmsg.specs.Endpoints.{bindingAt, at, isUnused, someEndpoint, uses, unusedFrom, paddedName, holds}
+use Rattle.blocks.specs.Search.{foundAt}
+use Rattle.blocks.specs.Tables.{entry, starts, startsData, runEntry, taken, blocksFor, inUse}
+use Rattle.endpoints.specs.Endpoints.{bindingAt, at, isUnused, someEndpoint, uses, unusedFrom, paddedName, holds}
 use Rattle.icbmsg.specs.Ends.{isOpen, withSent}
-use Rattle.icbmsg.specs.Opening.{Opening, opening}
-use Rattle.icbmsg.specs.Arrivals.{Decoded, empty, unknownKind, tooShort, dataSent, dataReleased, bindingSent, bindingReleased, decode}
+use Rattle.icbmsg.specs.Opening.{opening}
+use Rattle.icbmsg.specs.declared.Opening.{Opening}
+use Rattle.icbmsg.specs.Arrivals.{decode}
+use Rattle.icbmsg.specs.declared.Control.{Control}
+use Rattle.icbmsg.specs.declared.Control.the-variants.{TooShort, UnknownKind, DataSent, DataReleased, BindingSent, BindingReleased}
 use Rattle.icbmsg.specs.Calls.{Call, start, push, pull, reserve, room, send, drop, arrival, view, done, register, askRoom, askView, lent, step}
-use Rattle.icbmsg.specs.WellFormed.{Live, InRun, IsFree, bindingOf, Separate}
+use Rattle.blocks.specs.WellFormed.{Live, InRun, IsFree}
+use Rattle.icbmsg.specs.WellFormed.{bindingOf, Separate}
 use lib.ListN.{length}
-use Rattle.icbmsg.specs.declared.Use.the-variants.{Free, Reserved, SentData, SentBinding, ReceivedData}
-use Rattle.icbmsg.specs.declared.Entry.{Entry}
-use Rattle.icbmsg.specs.declared.Endpoint.{Endpoint}
+use Rattle.blocks.specs.declared.Use.the-variants.{Free, Reserved, SentData, SentBinding, ReceivedData}
+use Rattle.blocks.specs.declared.Entry.{Entry}
+use Rattle.endpoints.specs.declared.Endpoint.{Endpoint}
 use Rattle.icbmsg.specs.declared.Region.{Region}
 use Rattle.icbmsg.specs.declared.End.{End}
 
@@ -152,18 +157,17 @@ freesSent s = record { sent = thisRun s; held = noRun }
 abbrev pub freesHeld : (ℕ → Type 0) → Frees
 freesHeld f = record { sent = noRun; held = f }
 
-abbrev pub decodedFrees : Decoded → Frees
-decodedFrees empty = freesNone
-decodedFrees unknownKind = freesNone
-decodedFrees tooShort = freesNone
-decodedFrees (dataSent a b) = freesNone
-decodedFrees (dataReleased b) = freesSent b
-decodedFrees (bindingSent a b) = freesNone
-decodedFrees (bindingReleased a b) = freesSent b
+abbrev pub decodedFrees : Control → Frees
+decodedFrees UnknownKind = freesNone
+decodedFrees TooShort = freesNone
+decodedFrees (DataSent a b) = freesNone
+decodedFrees (DataReleased b) = freesSent b
+decodedFrees (BindingSent a b) = freesNone
+decodedFrees (BindingReleased a b) = freesSent b
 
 -- of a register, the stored binding that has its name
 abbrev pub freedByName : End → List ℕ → ℕ → Type 0
-freedByName e n x = (j : ℕ) × (bindingAt (holds (e .rx) n) (e .bindings) ≡ foundAt j) × (bindingOf (e .bindings) j .start ≡ x)
+freedByName e n x = (j : ℕ) × (bindingAt (holds (e .rx .count) n) (e .bindings) ≡ foundAt j) × (bindingOf (e .bindings) j .start ≡ x)
 
 unfoldable pub freedBy : End → Call → Frees
 freedBy e (start tx) = freesNone
@@ -201,17 +205,17 @@ RunsStay =
 abbrev pub SendTrims : Type 0
 SendTrims =
     (e : End) → Reached e → (tx : List ℕ) (s a k : ℕ) → step e (send tx s a k) .number ≡ 0 →
-    (blocksFor (e .tx) k ≤ entry (e .sent) s .count) × (entry (step e (send tx s a k) .next .sent) s ≡ runEntry SentData (blocksFor (e .tx) k) a k)
+    (blocksFor (e .tx .size) k ≤ entry (e .sent) s .count) × (entry (step e (send tx s a k) .next .sent) s ≡ runEntry SentData (blocksFor (e .tx .size) k) a k)
 
 -- ---- what the tests of total calls add refuses nothing
 
 -- 25 is given by the use alone: the tests that a run lies inside, and holds its data, are passed in every end reached
 pub record UseDecides (e : End) : Type 0 where
-  pub reserved : (s : ℕ) → starts Reserved (e .tx) (e .sent) s ≡ inUse Reserved (e .sent) s
-  pub sent-data : (s : ℕ) → starts SentData (e .tx) (e .sent) s ≡ inUse SentData (e .sent) s
-  pub sent-binding : (s : ℕ) → starts SentBinding (e .tx) (e .sent) s ≡ inUse SentBinding (e .sent) s
-  pub received-data : (s : ℕ) → startsData (e .rx) (e .held) s ≡ inUse ReceivedData (e .held) s
-  pub stored-binding : (n : List ℕ) (j : ℕ) → holds (e .rx) n (bindingOf (e .bindings) j) ≡ (bindingOf (e .bindings) j .stored && same (bindingOf (e .bindings) j .name) (paddedName n))
+  pub reserved : (s : ℕ) → starts Reserved (e .tx .count) (e .sent) s ≡ inUse Reserved (e .sent) s
+  pub sent-data : (s : ℕ) → starts SentData (e .tx .count) (e .sent) s ≡ inUse SentData (e .sent) s
+  pub sent-binding : (s : ℕ) → starts SentBinding (e .tx .count) (e .sent) s ≡ inUse SentBinding (e .sent) s
+  pub received-data : (s : ℕ) → startsData (e .rx .count) (e .rx .size) (e .held) s ≡ inUse ReceivedData (e .held) s
+  pub stored-binding : (n : List ℕ) (j : ℕ) → holds (e .rx .count) n (bindingOf (e .bindings) j) ≡ (bindingOf (e .bindings) j .stored && same (bindingOf (e .bindings) j .name) (paddedName n))
 
 abbrev pub NothingAdded : Type 0
 NothingAdded = (e : End) → Reached e → UseDecides e
@@ -231,7 +235,7 @@ FreeRun e n s = (s + n ≤ e .tx .count) × ((i : ℕ) → s ≤ i → i < s + n
 
 -- the blocks that K bytes need
 abbrev pub need : End → ℕ → ℕ
-need e k = blocksFor (e .tx) k
+need e k = blocksFor (e .tx .size) k
 
 -- the least number of blocks that hold K + 4 bytes
 abbrev pub NeedLeast : Type 0

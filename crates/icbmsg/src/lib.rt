@@ -1,46 +1,19 @@
-// One end of the link (000): its state, and what its calls answer, as declared types.
+// One end of the link (000): its state, what its calls are given, and what they answer. The calls are methods of `End` by value, by
+// family: openings, rings, messages, arrivals, registrations. Each answers the end that it leaves; a refused call leaves it as it was.
+mod arrivals;
+mod messages;
+mod openings;
+mod registrations;
+mod rings;
+
+ghost use mathlib.Core.Path.{_≡_};
+ghost use Rattle.blocks.specs.Search.{all};
+ghost use Rattle.icbmsg.specs.Ends.{soundRegion, openNumbers};
+use blocks::Entry;
+use endpoints::Binding;
+use endpoints::Endpoint;
+use icmsg::RingAnswer;
 use refusal::Refusal;
-
-// What a block of a region is in use for. Only the first block of a run says more than Inside.
-pub enum Use {
-    Free,
-    Inside,
-    Reserved,
-    SentData,
-    SentBinding,
-    ReceivedData,
-    StoredBinding,
-}
-
-// A block's entry. Of a run's first block: whose address, how many blocks, how many bytes.
-pub struct Entry {
-    pub usage: Use,
-    pub address: u8,
-    pub count: u16,
-    pub length: u32,
-}
-
-pub enum Stage {
-    Unused,
-    Waiting,
-    Bound,
-}
-
-// An endpoint's name has zeros behind it.
-pub struct Endpoint {
-    pub stage: Stage,
-    pub address: u8,
-    pub name: [u8; 32],
-}
-
-// A binding that arrived before its endpoint was registered: where its message lies, and what it says.
-pub struct Binding {
-    pub stored: bool,
-    pub address: u8,
-    pub start: u16,
-    pub count: u16,
-    pub name: [u8; 32],
-}
 
 // A region's numbers: its raw bytes, where the aligned region begins in them, its ring's data bytes, where its blocks begin, how many
 // there are and how large each is.
@@ -79,7 +52,37 @@ impl End {
     pub const LONGEST_NAME: usize = 31;
 }
 
-// What a call answers, beside the end that it leaves. Ring calls answer as the ring does.
+// A region as an opening is given it: its first address, the address behind its last byte, and its own block count.
+pub struct Bounds {
+    pub begin: u32,
+    pub end: u32,
+    pub blocks: u32,
+}
+
+// What an opening is given: the alignment, the region that this end sends in, and the one that it receives in.
+pub struct Opening {
+    pub align: u32,
+    pub tx: Bounds,
+    pub rx: Bounds,
+}
+
+// A control message, taken apart.
+pub enum Control {
+    TooShort,
+    UnknownKind,
+    DataSent { address: u8, block: u8 },
+    DataReleased(u8),
+    BindingSent { address: u8, block: u8 },
+    BindingReleased { address: u8, block: u8 },
+}
+
+// An arriving message, measured: its length and how many blocks it takes, or why it is refused.
+pub enum Measured {
+    Refused(Refusal),
+    Fits { length: u32, count: usize },
+}
+
+// What a call answers. Ring calls answer as the ring does.
 pub enum Answer {
     // Accepted, with nothing more to say.
     Accepted,
@@ -90,4 +93,45 @@ pub enum Answer {
     // A data message that has arrived: its endpoint's address, its first block and its length.
     Delivered { address: u8, block: u8, length: u32 },
     Refused(Refusal),
+}
+
+// A call's answer, and the end that it leaves.
+pub struct Called {
+    pub answer: Answer,
+    pub end: End,
+}
+
+// A ring call's answer, and the end that it leaves.
+pub struct RingCalled {
+    pub answer: RingAnswer,
+    pub end: End,
+}
+
+// Whether header, ring data and blocks of a region at alignment a lie one behind the other inside the region's bytes.
+fn is_sound(a: u16, g: Region) -> bool
+    ensures { λ r. ⌜ r ≡ all (soundRegion a g) ⌝ }
+{
+    let align = a as u64;
+    let base = g.base as u64;
+    let ring = g.ring as u64;
+    let blocks = g.blocks as u64;
+    let bytes = g.bytes as u64;
+    let size = g.size as u64;
+    let count = g.count as u64;
+    (32 <= ring)
+        & ((ring % 4 == 0)
+            & ((base + (align + 4) + ring <= blocks)
+                & ((blocks + count * size <= bytes)
+                    & ((bytes <= 1048576) & ((1 <= count) & ((count <= 256) & (4 <= size)))))))
+}
+
+// Whether the numbers are those of an open end. They come one by one, so that no call copies its end for this.
+fn is_open(a: u16, tx: Region, rx: Region, write: u32, read: u32) -> bool
+    ensures { λ r. ⌜ r ≡ openNumbers a tx rx write read ⌝ }
+{
+    (4 <= a)
+        & ((a <= 256)
+            & ((a % 4 == 0)
+                & (icmsg::in_rule(tx.ring, write)
+                    & (icmsg::in_rule(rx.ring, read) & (is_sound(a, tx) & is_sound(a, rx))))))
 }

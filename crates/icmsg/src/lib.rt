@@ -53,7 +53,8 @@ const START: [u8; 13] = [
 
 // ---- indexes
 
-fn in_rule(d: u32, i: u32) -> bool
+// Whether an index is in rule, with d data bytes.
+pub fn in_rule(d: u32, i: u32) -> bool
     ensures { λ r. ⌜ r ≡ inRule d i ⌝ }
 {
     (i < d) & (i % 4 == 0)

@@ -8,13 +8,14 @@ use lib.ListN.{getD}
 use Rattle.wire.specs.Choice.{pick}
 use Rattle.wire.specs.Reads.{gives, answer}
 use Rattle.icbmsg.specs.Outcome.{Outcome, refused, accepted, Rule, check}
-use Rattle.icbmsg.specs.Tables.{blocksFor, taken}
-use Rattle.icbmsg.specs.Endpoints.{someEndpoint, boundAt}
+use Rattle.blocks.specs.Tables.{blocksFor, taken}
+use Rattle.endpoints.specs.Endpoints.{someEndpoint, boundAt}
+use Rattle.endpoints.specs.Names.{Name, endless, name, longer, nameIn}
 use Rattle.icbmsg.specs.Ends.{withHeld}
 use Rattle.icbmsg.specs.Arrivals.{boundRule, boundSized, boundNamed, upToZero, fitsArea, areFree, dataRule}
 use Rattle.icbmsg.specs.Reading.{sizeIn, contentAt}
 use Rattle.icbmsg.proofs.RulesRead.{answer-guard}
-use Rattle.icbmsg.specs.declared.Use.the-variants.{ReceivedData}
+use Rattle.blocks.specs.declared.Use.the-variants.{ReceivedData}
 use Rattle.icbmsg.specs.declared.End.{End}
 
 answer-pick : (b : Bool) (t u : Rule) (r : List ℕ) → answer (pick b t u) r ≡ pick b (answer t r) (answer u r)
@@ -23,30 +24,17 @@ answer-pick false t u r = refl
 
 -- kind 0
 abbrev pub received : End → ℕ → ℕ → ℕ → Outcome
-received e a b k = accepted (withHeld e (taken (e .held) ReceivedData b (blocksFor (e .rx) k) a k)) (a ∷ b ∷ k ∷ [])
+received e a b k = accepted (withHeld e (taken (e .held) ReceivedData b (blocksFor (e .rx .size) k) a k)) (a ∷ b ∷ k ∷ [])
 
 pub data-flat : (e : End) (a b : ℕ) (r : List ℕ) → answer (dataRule e a b) r ≡
     check (leb a 0xFD) 14 e
     (check (someEndpoint (boundAt a) (e .endpoints)) 15 e
     (check (ltb b (e .rx .count)) 16 e
-    (check (fitsArea e b (sizeIn e b r)) 17 e
-    (check (areFree e b (sizeIn e b r)) 18 e
+    (check (fitsArea (e .rx) b (sizeIn e b r)) 17 e
+    (check (areFree (e .held) (e .rx) b (sizeIn e b r)) 18 e
     (received e a b (sizeIn e b r))))))
 unfolding dataRule
 data-flat e a b r = simp answer-guard
-
--- a name as far as its first zero, of at most n bytes from p on
-pub data Name : Type 0 where
-  endless : Name
-  name : List ℕ → Name
-
-abbrev pub longer : ℕ → Name → Name
-longer c endless = endless
-longer c (name cs) = name (c ∷ cs)
-
-abbrev pub nameIn : ℕ → ℕ → List ℕ → Name
-nameIn zero p r = endless
-nameIn (suc n) p r = pick (eqb (getD r p 0) 0) (name []) (longer (getD r p 0) (nameIn n (suc p) r))
 
 abbrev pub withName : End → (List ℕ → Outcome) → Name → Outcome
 withName e f endless = refused e 20
@@ -73,8 +61,8 @@ pub bound-flat : (e : End) (a b : ℕ) (r : List ℕ) → answer (boundRule e a 
     check (not (e .initiator)) 19 e
     (check (leb a 0xFD) 14 e
     (check (ltb b (e .rx .count)) 16 e
-    (check (fitsArea e b (sizeIn e b r)) 17 e
-    (check (areFree e b (sizeIn e b r)) 18 e
-    (withName e (boundNamed e a b (blocksFor (e .rx) (sizeIn e b r))) (nameIn (min (sizeIn e b r) 32) (contentAt e b) r))))))
+    (check (fitsArea (e .rx) b (sizeIn e b r)) 17 e
+    (check (areFree (e .held) (e .rx) b (sizeIn e b r)) 18 e
+    (withName e (boundNamed e a b (blocksFor (e .rx .size) (sizeIn e b r))) (nameIn (min (sizeIn e b r) 32) (contentAt e b) r))))))
 unfolding boundRule boundSized
 bound-flat e a b r = simp (answer-guard, name-flat)

@@ -1,17 +1,24 @@
 -- Endpoints and stored bindings, by name and address.
 use Prim.Native.Nat.{ℕ, zero, suc}
 use mathlib.Core.Bool.{Bool, true, false, not, _&&_, _||_}
+use mathlib.Core.Path.{_≡_}
 use mathlib.Core.List.{List, _∷_, [], _++_}
 use lib.Dec.{leb, eqb}
-use lib.ListN.{length, take, replicate}
+use lib.ListN.{length, take, replicate, getD, set}
 use Rattle.wire.specs.Choice.{pick}
 use Rattle.wire.specs.Bytes.{same}
-use Rattle.icbmsg.specs.Tables.{all, Search, isFound, firstFrom, any, lies}
-use Rattle.icbmsg.specs.declared.Stage.{Stage}
-use Rattle.icbmsg.specs.declared.Stage.the-variants.{Unused, Waiting, Bound}
-use Rattle.icbmsg.specs.declared.Endpoint.{Endpoint}
-use Rattle.icbmsg.specs.declared.Binding.{Binding}
-use Rattle.icbmsg.specs.declared.Region.{Region}
+use Rattle.blocks.specs.Search.{all, Search, nowhere, foundAt, isFound, firstFrom, any}
+use Rattle.blocks.specs.Tables.{lies}
+use Rattle.endpoints.specs.declared.Stage.{Stage}
+use Rattle.endpoints.specs.declared.Stage.the-variants.{Unused, Waiting, Bound}
+use Rattle.endpoints.specs.declared.Endpoint.{Endpoint}
+use Rattle.endpoints.specs.declared.Binding.{Binding}
+use Rattle.endpoints.specs.declared.Addressee.{Addressee}
+use Rattle.endpoints.specs.declared.Addressee.the-variants.{Nobody}
+use Rattle.endpoints.specs.declared.EndpointTest.{EndpointTest}
+use Rattle.endpoints.specs.declared.EndpointTest.the-variants.{BoundAt, WaitingAt, Uses, Registered, WaitingFor, Clashes}
+use Rattle.endpoints.specs.declared.BindingTest.{BindingTest}
+use Rattle.endpoints.specs.declared.BindingTest.the-variants.{Free, Holds}
 
 -- a name as it is kept: 32 bytes, zeros behind it
 abbrev pub paddedName : List ℕ → List ℕ
@@ -53,9 +60,12 @@ registered n p = not (at isUnused p) && named n p
 abbrev pub waitingFor : List ℕ → Endpoint → Bool
 waitingFor n p = at isWaiting p && named n p
 
--- a stored binding of this name. One whose blocks do not lie inside is none
-abbrev pub holds : Region → List ℕ → Binding → Bool
-holds g n b = all (b .stored ∷ same (b .name) (paddedName n) ∷ lies g (b .start) (b .count) ∷ [])
+abbrev pub waitingAt : ℕ → Endpoint → Bool
+waitingAt a p = at isWaiting p && eqb (p .address) a
+
+-- a stored binding of this name. One whose blocks are not among the first c is none
+abbrev pub holds : ℕ → List ℕ → Binding → Bool
+holds c n b = all (b .stored ∷ same (b .name) (paddedName n) ∷ lies c (b .start) (b .count) ∷ [])
 
 -- an arriving binding's address or name belongs to these
 abbrev pub clashes : ℕ → List ℕ → Endpoint → Bool
@@ -77,6 +87,11 @@ someEndpoint f ps = isFound (endpointAt f ps)
 abbrev pub someBinding : (Binding → Bool) → List Binding → Bool
 someBinding f bs = isFound (bindingAt f bs)
 
+-- the waiting endpoint with the address is bound
+abbrev pub boundNow : List Endpoint → ℕ → Search → List Endpoint
+boundNow ps a nowhere = ps
+boundNow ps a (foundAt i) = set ps i (record { stage = Bound; address = a; name = (getD ps i noEndpoint) .name })
+
 -- endpoint p uses address a
 abbrev pub uses : ℕ → Endpoint → Bool
 uses a p = not (at isUnused p) && eqb (p .address) a
@@ -89,3 +104,24 @@ unusedFrom (suc f) a ps = pick (someEndpoint (uses a) ps) (unusedFrom f (suc a) 
 -- 1 to 31 bytes, none zero
 unfoldable pub goodName : List ℕ → Bool
 goodName n = leb 1 (length n) && leb (length n) 31 && not (any (λ b. eqb b 0) n)
+
+-- what the code's question whom an address reaches answers
+abbrev pub IsAddressee : Addressee → ℕ → List Endpoint → Type 0
+IsAddressee Nobody a ps = someEndpoint (boundAt a) ps ≡ false
+IsAddressee (Addressee.Bound x) a ps = (x ≡ a) × (someEndpoint (boundAt a) ps ≡ true)
+
+-- ---- the code's searches: each test by its name, with the address a and the padded name m
+
+abbrev pub endpointTest : EndpointTest → ℕ → List ℕ → Endpoint → Bool
+endpointTest EndpointTest.Unused a m p = at isUnused p
+endpointTest BoundAt a m p = at isBound p && eqb (p .address) a
+endpointTest WaitingAt a m p = at isWaiting p && eqb (p .address) a
+endpointTest Uses a m p = not (at isUnused p) && eqb (p .address) a
+endpointTest Registered a m p = not (at isUnused p) && same (p .name) m
+endpointTest WaitingFor a m p = at isWaiting p && same (p .name) m
+endpointTest Clashes a m p = at isBound p && (eqb (p .address) a || same (p .name) m)
+
+abbrev pub bindingTest : BindingTest → ℕ → ℕ → List ℕ → Binding → Bool
+bindingTest Free c a m b = not (b .stored)
+bindingTest Holds c a m b = all (b .stored ∷ same (b .name) m ∷ lies c (b .start) (b .count) ∷ [])
+bindingTest BindingTest.Clashes c a m b = b .stored && (eqb (b .address) a || same (b .name) m)

@@ -1,0 +1,4 @@
+pub mod Tables
+pub mod LeastBlocks
+pub mod Search
+pub mod Loops

@@ -1,0 +1,4 @@
+pub mod Names
+pub mod Padding
+pub mod Tests
+pub mod Unused

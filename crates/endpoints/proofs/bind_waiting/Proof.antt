@@ -1,0 +1,63 @@
+use Prim.Native.Nat.{_+_, _≤_}
+use mathlib.Core.Path.{_≡_}
+use native.Mathlib.Omega.{arith}
+use lib.ListN.{length}
+use Rattle.endpoints.specs.Endpoints.{endpointAt, waitingAt}
+use Rattle.blocks.proofs.Search.{ends-nowhere, ends-at, at-below}
+use Rattle.endpoints.proofs.Tests.{none-waits, one-waits}
+use borrow.Author.Needs.{needs}
+use Rattle.endpoints.proofs.bind_waiting.Statement.{statement}
+use Rattle.endpoints.proofs.bind_waiting.Tie as tie
+
+place : (c : tie.After-i) → c .i .given .0 .0 + 1 ≤ 8
+place c = at-below _ 1 8 _ (c .before .before .find .ensures .1) (c .i .given .1)
+
+slice-aggregate-find : tie.Need-slice-aggregate-find
+slice-aggregate-find c = search needs
+
+find-requires : tie.Need-find-requires
+find-requires c κs = search needs
+
+enum-told : tie.Need-enum-told
+enum-told c = search needs
+
+enum-known-i : tie.Need-enum-known-i
+enum-known-i c = search needs
+
+mul-p : tie.Need-mul-p
+mul-p c = omega (arith, place (c .before))
+
+array-copy-out-p : tie.Need-array-copy-out-p
+array-copy-out-p c = omega (arith, place (c .before))
+
+mul-endpoints : tie.Need-mul-endpoints
+mul-endpoints c = omega (arith, place (c .before .before .before))
+
+array-set-from-endpoints : tie.Need-array-set-from-endpoints
+array-set-from-endpoints c = omega (arith, place (c .before .before .before))
+
+returns : tie.Need-returns
+returns c =
+    let a = c .before .before .before .before .args in
+    none-waits (a .t1) (a .address) _ (ends-nowhere _ _ (c .before .before .find .ensures .0) (c .enum-told .given .1))
+
+returns-2 : tie.Need-returns-2
+returns-2 c =
+    let a = c .before .before .before .before .before .before .before .args in
+    let n : length (a .t1) ≡ 8 = search needs in
+    one-waits (a .t1) (a .address) (endpointAt (waitingAt (a .address)) (a .t1)) _ _ (ends-at _ _ (c .before .before .before .before .before .find .ensures .0) _ (c .before .before .before .i .given .1)) (omega (arith, place (c .before .before .before)))
+
+pub bind-waiting-spec : {M : Type 1} → statement M
+bind-waiting-spec =
+    tie.close
+    (tie.spec
+    slice-aggregate-find
+    find-requires
+    enum-told
+    enum-known-i
+    mul-p
+    array-copy-out-p
+    mul-endpoints
+    array-set-from-endpoints
+    returns
+    returns-2)

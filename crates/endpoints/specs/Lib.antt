@@ -1,0 +1,2 @@
+pub mod Endpoints
+pub mod Names

@@ -1,0 +1,288 @@
+// Endpoints and stored bindings, by name and address: eight of each, searched from the lowest place.
+ghost use mathlib.Core.Path.{_≡_};
+ghost use Prim.Native.Nat.{_+_, _≤_};
+ghost use lib.ListN.{length};
+ghost use Rattle.wire.specs.Bytes.{straight, bytes};
+ghost use Rattle.blocks.specs.Tables.{searchOf, FoundBelow};
+ghost use Rattle.endpoints.specs.Endpoints.{paddedName, isUnused, isWaiting, isBound, endpointTest, bindingTest, waitingAt, boundNow, IsAddressee, endpointAt, bindingAt, someEndpoint, someBinding, unusedFrom, goodName};
+ghost use Rattle.endpoints.specs.Names.{nameIn, nameOf};
+use blocks::Found;
+
+pub enum Stage {
+    Unused,
+    Waiting,
+    Bound,
+}
+
+// An endpoint's name has zeros behind it.
+pub struct Endpoint {
+    pub stage: Stage,
+    pub address: u8,
+    pub name: [u8; 32],
+}
+
+// A binding that arrived before its endpoint was registered: where its message lies, and what it says.
+pub struct Binding {
+    pub stored: bool,
+    pub address: u8,
+    pub start: u16,
+    pub count: u16,
+    pub name: [u8; 32],
+}
+
+// What an endpoint is searched for: its stage, with the address, the name, or either.
+pub enum EndpointTest {
+    Unused,
+    BoundAt,
+    WaitingAt,
+    Uses,
+    Registered,
+    WaitingFor,
+    Clashes,
+}
+
+// What a binding is searched for: a free place, the name with blocks that lie inside, or a clash with the address or the name.
+pub enum BindingTest {
+    Free,
+    Holds,
+    Clashes,
+}
+
+// Whom an address reaches: its byte, where a bound endpoint has it.
+pub enum Addressee {
+    Nobody,
+    Bound(u8),
+}
+
+// The number of places for endpoints, and of places for bindings.
+const PLACES: usize = 8;
+
+// ---- names
+
+// Whether a name has 1 to 31 bytes, none zero.
+pub fn is_good_name(name: &[u8]) -> bool
+    ensures { λ r. ⌜ r ≡ goodName (now (name .entry)) ⌝ }
+{
+    let n = name.len();
+    if n < 1 {
+        return false;
+    }
+    if 31 < n {
+        return false;
+    }
+    let mut i = 0;
+    while i < n {
+        if name[i] == 0 {
+            return false;
+        }
+        i += 1;
+    }
+    true
+}
+
+// The n bytes at p as a name is kept: 32 bytes, zeros behind it.
+pub fn padded(s: &[u8], p: usize, n: usize) -> [u8; 32]
+    requires { ⌜ (p + n ≤ length (now s)) × (n ≤ 32) ⌝ }
+    ensures { λ r. ⌜ r ≡ paddedName (bytes (now (s .entry)) (straight p) n) ⌝ }
+{
+    let mut name = [0u8; 32];
+    wire::copy(&mut name, 0, s, p, n);
+    name
+}
+
+// The length of the name at p: as far as its first zero byte, of at most n bytes.
+pub fn name_length(s: &[u8], p: usize, n: usize) -> Found
+    requires { ⌜ p + n ≤ length (now s) ⌝ }
+    ensures { λ r. ⌜ (nameOf r (now (s .entry)) p ≡ nameIn n p (now (s .entry))) × FoundBelow r 1 n ⌝ }
+{
+    let mut i = 0;
+    while i < n {
+        if s[p + i] == 0 {
+            return Found::At(i);
+        }
+        i += 1;
+    }
+    Found::Nowhere
+}
+
+// ---- endpoints
+
+fn is_unused(s: Stage) -> bool
+    ensures { λ r. ⌜ r ≡ isUnused s ⌝ }
+{
+    match s {
+        Stage::Unused => true,
+        Stage::Waiting => false,
+        Stage::Bound => false,
+    }
+}
+
+fn is_waiting(s: Stage) -> bool
+    ensures { λ r. ⌜ r ≡ isWaiting s ⌝ }
+{
+    match s {
+        Stage::Unused => false,
+        Stage::Waiting => true,
+        Stage::Bound => false,
+    }
+}
+
+fn is_bound(s: Stage) -> bool
+    ensures { λ r. ⌜ r ≡ isBound s ⌝ }
+{
+    match s {
+        Stage::Unused => false,
+        Stage::Waiting => false,
+        Stage::Bound => true,
+    }
+}
+
+// Whether an endpoint passes the test, with this address and this padded name.
+fn endpoint_passes(p: Endpoint, test: EndpointTest, address: u32, name: &[u8]) -> bool
+    ensures { λ r. ⌜ r ≡ endpointTest test address (now (name .entry)) p ⌝ }
+{
+    let stage = p.stage;
+    let own = p.name;
+    let has = p.address as u32 == address;
+    match test {
+        EndpointTest::Unused => is_unused(stage),
+        EndpointTest::BoundAt => is_bound(stage) & has,
+        EndpointTest::WaitingAt => is_waiting(stage) & has,
+        EndpointTest::Uses => !is_unused(stage) & has,
+        EndpointTest::Registered => !is_unused(stage) & wire::same(&own, name),
+        EndpointTest::WaitingFor => is_waiting(stage) & wire::same(&own, name),
+        EndpointTest::Clashes => is_bound(stage) & (has | wire::same(&own, name)),
+    }
+}
+
+// The lowest endpoint that passes the test.
+pub fn find(endpoints: [Endpoint; 8], test: EndpointTest, address: u32, name: &[u8]) -> Found
+    ensures { λ r. ⌜ (searchOf r ≡ endpointAt (endpointTest test address (now (name .entry))) endpoints) × FoundBelow r 1 8 ⌝ }
+{
+    let mut i = 0;
+    while i < PLACES {
+        let p = endpoints[i];
+        if endpoint_passes(p, test, address, name) {
+            return Found::At(i);
+        }
+        i += 1;
+    }
+    Found::Nowhere
+}
+
+// Whether an endpoint passes the test.
+pub fn has(endpoints: [Endpoint; 8], test: EndpointTest, address: u32, name: &[u8]) -> bool
+    ensures { λ r. ⌜ r ≡ someEndpoint (endpointTest test address (now (name .entry))) endpoints ⌝ }
+{
+    match find(endpoints, test, address, name) {
+        Found::Nowhere => false,
+        Found::At(_) => true,
+    }
+}
+
+// The bound endpoint that has the address, as a byte.
+pub fn find_addressee(endpoints: [Endpoint; 8], address: u32) -> Addressee
+    ensures { λ r. ⌜ IsAddressee r address endpoints ⌝ }
+{
+    let nameless = [0u8; 1];
+    match find(endpoints, EndpointTest::BoundAt, address, &nameless) {
+        Found::Nowhere => Addressee::Nobody,
+        Found::At(i) => {
+            let p = endpoints[i];
+            Addressee::Bound(p.address)
+        }
+    }
+}
+
+// The lowest address that no endpoint uses.
+pub fn unused_address(endpoints: [Endpoint; 8]) -> u8
+    ensures { λ r. ⌜ r ≡ unusedFrom 8 0 endpoints ⌝ }
+{
+    let nameless = [0u8; 1];
+    let mut a: u8 = 0;
+    while a < 8 {
+        if !has(endpoints, EndpointTest::Uses, a as u32, &nameless) {
+            return a;
+        }
+        a += 1;
+    }
+    a
+}
+
+// The endpoints with the one that waits at this address bound.
+pub fn bind_waiting(mut endpoints: [Endpoint; 8], address: u8) -> [Endpoint; 8]
+    ensures { λ r. ⌜ r ≡ boundNow endpoints address (endpointAt (waitingAt address) endpoints) ⌝ }
+{
+    let nameless = [0u8; 1];
+    match find(
+        endpoints,
+        EndpointTest::WaitingAt,
+        address as u32,
+        &nameless,
+    ) {
+        Found::Nowhere => endpoints,
+        Found::At(i) => {
+            let p = endpoints[i];
+            let name = p.name;
+            endpoints[i] = Endpoint {
+                stage: Stage::Bound,
+                address,
+                name,
+            };
+            endpoints
+        }
+    }
+}
+
+// ---- bindings
+
+// Whether a binding passes the test, with this block count, this address and this padded name.
+fn binding_passes(b: Binding, test: BindingTest, count: u16, address: u8, name: &[u8]) -> bool
+    ensures { λ r. ⌜ r ≡ bindingTest test count address (now (name .entry)) b ⌝ }
+{
+    let own = b.name;
+    match test {
+        BindingTest::Free => !b.stored,
+        BindingTest::Holds => {
+            b.stored & (wire::same(&own, name) & blocks::lies(count, b.start as u32, b.count))
+        }
+        BindingTest::Clashes => b.stored & ((b.address == address) | wire::same(&own, name)),
+    }
+}
+
+// The lowest binding that passes the test.
+pub fn find_binding(
+    bindings: [Binding; 8],
+    test: BindingTest,
+    count: u16,
+    address: u8,
+    name: &[u8],
+) -> Found
+    ensures { λ r. ⌜ (searchOf r ≡ bindingAt (bindingTest test count address (now (name .entry))) bindings) × FoundBelow r 1 8 ⌝ }
+{
+    let mut i = 0;
+    while i < PLACES {
+        let b = bindings[i];
+        if binding_passes(b, test, count, address, name) {
+            return Found::At(i);
+        }
+        i += 1;
+    }
+    Found::Nowhere
+}
+
+// Whether a binding passes the test.
+pub fn has_binding(
+    bindings: [Binding; 8],
+    test: BindingTest,
+    count: u16,
+    address: u8,
+    name: &[u8],
+) -> bool
+    ensures { λ r. ⌜ r ≡ someBinding (bindingTest test count address (now (name .entry))) bindings ⌝ }
+{
+    match find_binding(bindings, test, count, address, name) {
+        Found::Nowhere => false,
+        Found::At(_) => true,
+    }
+}
