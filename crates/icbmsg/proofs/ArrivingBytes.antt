@@ -16,7 +16,7 @@ use Rattle.icbmsg.specs.Arrivals.{boundRule, boundSized, boundNamed, upT
 use Rattle.icbmsg.specs.Reading.{sizeIn, contentAt}
 use Rattle.icbmsg.proofs.RulesRead.{answer-guard}
 use Rattle.blocks.specs.declared.Use.the-variants.{ReceivedData}
-use Rattle.icbmsg.specs.declared.End.{End}
+use Rattle.icbmsg.specs.End.{End}
 
 answer-pick : (b : Bool) (t u : Rule) (r : List ℕ) → answer (pick b t u) r ≡ pick b (answer t r) (answer u r)
 answer-pick true t u r = refl

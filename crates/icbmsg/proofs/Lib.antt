@@ -1,13 +1,5 @@
-pub mod OpenSays
 pub mod RulesRead
-pub mod RingCalls
-pub mod MessageCalls
-pub mod Decoding
-pub mod Measuring
-pub mod OpeningCall
 pub mod ArrivingBytes
-pub mod ArrivalCalls
-pub mod RegisterCalls
 pub mod Effects
 pub mod Separate
 pub mod RunsStay

@@ -23,7 +23,7 @@ use Rattle.icbmsg.specs.NewerPartner.{Grown, Change, unchanged, longer, 
 use Rattle.wire.proofs.Trees.{same-answer}
 use Rattle.blocks.proofs.LeastBlocks.{fits-too}
 use Rattle.icbmsg.proofs.RulesRead.{rules-read}
-use Rattle.icbmsg.specs.declared.End.{End}
+use Rattle.icbmsg.specs.End.{End}
 
 -- receive bytes that are not read
 others : (e : End) (c : Call) (t′ : Rule) (r′ : List ℕ) → t′ ≡ rule e c → Agree (reading e c) (lent c .rx) r′ → answer t′ r′ ≡ answer (rule e c) (lent c .rx)

@@ -22,7 +22,7 @@ use Rattle.icbmsg.specs.declared.Control.{Control}
 use Rattle.icbmsg.specs.declared.Control.the-variants.{TooShort, UnknownKind, DataSent, DataReleased, BindingSent, BindingReleased}
 use Rattle.icbmsg.specs.Calls.{Call, start, push, pull, reserve, room, send, drop, arrival, view, done, register, askRoom, askView, rule, lent, step}
 use Rattle.icbmsg.specs.Reading.{sizeIn, contentAt, zeroEnded, arrivalReads, reading}
-use Rattle.icbmsg.specs.declared.End.{End}
+use Rattle.icbmsg.specs.End.{End}
 use Rattle.wire.proofs.Trees.{answer-unless, answer-readEach, answer-andThen, positionsRead-unless, positionsRead-andThen}
 
 positionsRead-guard : (b : Bool) (n : ℕ) (e : End) (t : Rule) (r : List ℕ) → positionsRead (guard b n e t) r ≡ pick b (positionsRead t r) []

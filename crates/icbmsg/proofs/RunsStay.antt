@@ -25,7 +25,7 @@ use Rattle.blocks.specs.declared.Use.the-variants.{Reserved, SentData}
 use Rattle.blocks.specs.declared.Entry.{Entry}
 use Rattle.endpoints.specs.declared.Binding.{Binding}
 use Rattle.icbmsg.specs.declared.Region.{Region}
-use Rattle.icbmsg.specs.declared.End.{End}
+use Rattle.icbmsg.specs.End.{End}
 
 -- ---- a table, in which a live run starts at s and has block i
 

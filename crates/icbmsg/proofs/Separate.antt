@@ -27,7 +27,7 @@ use Rattle.blocks.specs.declared.Use.the-variants.{Free, Inside, Reserved, Sent
 use Rattle.blocks.specs.declared.Entry.{Entry}
 use Rattle.endpoints.specs.declared.Binding.{Binding}
 use Rattle.icbmsg.specs.declared.Region.{Region}
-use Rattle.icbmsg.specs.declared.End.{End}
+use Rattle.icbmsg.specs.End.{End}
 
 -- ---- stored bindings
 

@@ -36,7 +36,7 @@ use Rattle.blocks.proofs.Tables.{run-of}
 use Rattle.icbmsg.proofs.Effects.{sound, in-blocks, whole-open, size-pos}
 use Rattle.blocks.proofs.Search.{lowest-at}
 use Rattle.blocks.specs.declared.Use.the-variants.{Reserved}
-use Rattle.icbmsg.specs.declared.End.{End}
+use Rattle.icbmsg.specs.End.{End}
 
 -- the slices that are lent have t, r and b bytes
 record Within (t r b : ℕ) (o : Outcome) : Type 0 where

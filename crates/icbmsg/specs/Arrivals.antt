@@ -1,14 +1,12 @@
 -- The rules of arriving control messages (01, "Arriving control messages" and "Binding").
-use Prim.Native.Nat.{ℕ, zero, suc, _+_, _-_, _*_, _≤_, min}
+use Prim.Native.Nat.{ℕ, zero, suc, _+_, _-_, _*_, min}
 use mathlib.Core.Bool.{Bool, true, not, _&&_}
-use mathlib.Core.Path.{_≡_}
 use mathlib.Core.List.{List, [], _∷_}
 use lib.Dec.{leb, ltb, eqb}
 use lib.ListN.{length, set}
-use Rattle.wire.specs.Choice.{pick, check as numbered}
+use Rattle.wire.specs.Choice.{pick}
 use Rattle.wire.specs.Bytes.{fromLittleEndian, straight, positions, bytesAt}
 use Rattle.wire.specs.Reads.{gives, reads, readEach}
-use Rattle.refusal.specs.Numbers.{numberOf}
 use Rattle.blocks.specs.declared.Entry.{Entry}
 use Rattle.icbmsg.specs.Outcome.{Outcome, refused, accepted, Rule, check, guard}
 use Rattle.blocks.specs.Search.{Search, nowhere, foundAt}
@@ -20,10 +18,8 @@ use Rattle.blocks.specs.declared.Use.the-variants.{SentData, SentBinding, Recei
 use Rattle.endpoints.specs.declared.Stage.the-variants.{Bound}
 use Rattle.icbmsg.specs.declared.Control.{Control}
 use Rattle.icbmsg.specs.declared.Control.the-variants.{TooShort, UnknownKind, DataSent, DataReleased, BindingSent, BindingReleased}
-use Rattle.icbmsg.specs.declared.Measured.{Measured}
-use Rattle.icbmsg.specs.declared.Measured.the-variants.{Fits}
 use Rattle.icbmsg.specs.declared.Region.{Region}
-use Rattle.icbmsg.specs.declared.End.{End}
+use Rattle.icbmsg.specs.End.{End}
 
 -- "Only the first three bytes are used." "Empty: 12. First byte above 3: 13. Known kind with under three bytes: 12"
 abbrev pub kind : ℕ → ℕ → ℕ → Control
@@ -132,25 +128,3 @@ decodedRule e (BindingReleased a b) = gives (releasedBoundOf e a b)
 
 unfoldable pub arrivalRule : End → ℕ → List ℕ → Rule
 arrivalRule e n m = guard (whole e (e .rx) n) 6 e (decodedRule e (decode m))
-
--- ---- what the code's measure of an arriving message answers
-
--- 16, 17, 18, for K bytes in block b of a region whose table is t
-abbrev pub placeNumber : Region → List Entry → ℕ → ℕ → ℕ
-placeNumber g t b k = numbered (ltb b (g .count)) 16 (numbered (fitsArea g b k) 17 (numbered (areFree t g b k) 18 0))
-
-abbrev pub measuredNumber : Measured → ℕ
-measuredNumber (Measured.Refused x) = numberOf x
-measuredNumber (Fits k n) = 0
-
--- K, and its blocks, which lie inside
-abbrev pub MeasuredAs : Measured → Region → ℕ → ℕ → Type 0
-MeasuredAs (Measured.Refused x) g b k = Unit {0}
-MeasuredAs (Fits m n) g b k = (m ≡ k) × (n ≡ blocksFor (g .size) k) × (1 ≤ n) × (b + n ≤ g .count) × (k + 4 ≤ n * g .size)
-
--- n bytes are lent of a region, and its blocks lie in them
-pub record Lent (n : ℕ) (g : Region) : Type 0 where
-  pub size : 4 ≤ g .size
-  pub few : g .count ≤ 256
-  pub blocks : g .blocks + g .count * g .size ≤ n
-  pub bytes : n ≤ 1048576

@@ -8,7 +8,7 @@ use Rattle.icmsg.specs.Ring.{packet}
 use Rattle.icbmsg.specs.Outcome.{Outcome}
 use Rattle.icbmsg.specs.Opening.{opening}
 use Rattle.icbmsg.specs.Calls.{reserve, register, step}
-use Rattle.icbmsg.specs.declared.End.{End}
+use Rattle.icbmsg.specs.End.{End}
 
 -- the end that transmits in the region of 16 blocks; with its receive region below, it is an initiator
 abbrev pub initiator : End

@@ -8,7 +8,7 @@ use Rattle.icbmsg.specs.Rings.{startOf, pushOf, pullRule}
 use Rattle.icbmsg.specs.Messages.{reserveOf, roomOf, sendOf, dropOf, viewOf, doneOf, roomQuestion, viewQuestion}
 use Rattle.icbmsg.specs.Registering.{registerOf}
 use Rattle.icbmsg.specs.Arrivals.{arrivalRule}
-use Rattle.icbmsg.specs.declared.End.{End}
+use Rattle.icbmsg.specs.End.{End}
 
 -- tx and rx are the lent transmit and receive bytes
 pub data Call : Type 0 where

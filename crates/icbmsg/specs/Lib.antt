@@ -1,5 +1,5 @@
+pub mod End
 pub mod Outcome
-pub mod Answers
 pub mod Ends
 pub mod Opening
 pub mod Rings

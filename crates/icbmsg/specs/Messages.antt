@@ -8,7 +8,7 @@ use Rattle.blocks.specs.Tables.{entry, starts, startsData, freed, taken, blocks
 use Rattle.icbmsg.specs.Ends.{blockAt, isOpen, whole, foundOr, withSent, withHeld}
 use Rattle.endpoints.specs.Endpoints.{boundAt, someEndpoint}
 use Rattle.blocks.specs.declared.Use.the-variants.{Reserved, SentData}
-use Rattle.icbmsg.specs.declared.End.{End}
+use Rattle.icbmsg.specs.End.{End}
 
 -- "Reserve takes the lowest start with enough consecutive free blocks and returns start and count. Checks 23, then 24"
 unfoldable pub reserveOf : End → ℕ → Outcome

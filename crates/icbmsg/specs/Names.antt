@@ -12,7 +12,7 @@ use Rattle.blocks.specs.declared.Use.the-variants.{SentBinding}
 use Rattle.blocks.specs.declared.Entry.{Entry}
 use Rattle.endpoints.specs.declared.Endpoint.{Endpoint}
 use Rattle.endpoints.specs.declared.Binding.{Binding}
-use Rattle.icbmsg.specs.declared.End.{End}
+use Rattle.icbmsg.specs.End.{End}
 
 abbrev pub endpointOf : List Endpoint → ℕ → Endpoint
 endpointOf ps i = getD ps i noEndpoint

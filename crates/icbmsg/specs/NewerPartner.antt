@@ -15,7 +15,7 @@ use Rattle.icbmsg.specs.Arrivals.{decode}
 use Rattle.icbmsg.specs.declared.Control.the-variants.{BindingSent}
 use Rattle.icbmsg.specs.Calls.{Call, pull, arrival, view, step, run}
 use Rattle.icbmsg.specs.Reading.{reading, sizeIn, contentAt}
-use Rattle.icbmsg.specs.declared.End.{End}
+use Rattle.icbmsg.specs.End.{End}
 
 -- A binding message in block b that fits, zero-ended at byte z, and the same with bytes after it: K grows, its
 -- blocks do not, and its own bytes stay.

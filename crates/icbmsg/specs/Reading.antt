@@ -11,7 +11,7 @@ use Rattle.icbmsg.specs.Arrivals.{decode, headerAt, sizeAt}
 use Rattle.icbmsg.specs.declared.Control.{Control}
 use Rattle.icbmsg.specs.declared.Control.the-variants.{TooShort, UnknownKind, DataSent, DataReleased, BindingSent, BindingReleased}
 use Rattle.icbmsg.specs.Calls.{Call, start, push, pull, reserve, room, send, drop, arrival, view, done, register, askRoom, askView, step}
-use Rattle.icbmsg.specs.declared.End.{End}
+use Rattle.icbmsg.specs.End.{End}
 
 -- K of the message in receive block b, and where its content begins
 abbrev pub sizeIn : End → ℕ → List ℕ → ℕ

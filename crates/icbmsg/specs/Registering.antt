@@ -16,7 +16,7 @@ use Rattle.endpoints.specs.declared.Stage.{Stage}
 use Rattle.endpoints.specs.declared.Stage.the-variants.{Waiting, Bound}
 use Rattle.endpoints.specs.declared.Endpoint.{Endpoint}
 use Rattle.endpoints.specs.declared.Binding.{Binding}
-use Rattle.icbmsg.specs.declared.End.{End}
+use Rattle.icbmsg.specs.End.{End}
 
 -- endpoint i becomes this
 abbrev pub become : End → ℕ → Stage → ℕ → List ℕ → List Endpoint

@@ -9,7 +9,7 @@ use Rattle.icmsg.specs.declared.Ring.{Ring}
 use Rattle.icbmsg.specs.Outcome.{Outcome, ringRefused, written, Rule}
 use Rattle.icbmsg.specs.Ends.{whole, withWrite, withRead}
 use Rattle.icbmsg.specs.declared.Region.{Region}
-use Rattle.icbmsg.specs.declared.End.{End}
+use Rattle.icbmsg.specs.End.{End}
 
 -- the ring of a region at alignment a
 abbrev pub ringOf : ℕ → Region → Ring

@@ -24,7 +24,7 @@ use Rattle.blocks.specs.declared.Use.the-variants.{Free, Reserved, SentData, Se
 use Rattle.blocks.specs.declared.Entry.{Entry}
 use Rattle.endpoints.specs.declared.Endpoint.{Endpoint}
 use Rattle.icbmsg.specs.declared.Region.{Region}
-use Rattle.icbmsg.specs.declared.End.{End}
+use Rattle.icbmsg.specs.End.{End}
 
 -- ---- ends that are reached
 

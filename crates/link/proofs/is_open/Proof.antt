@@ -1,0 +1,26 @@
+use Rattle.link.proofs.OpenSays.{open-of}
+use borrow.Author.Needs.{needs}
+use Rattle.link.proofs.is_open.Statement.{statement}
+use Rattle.link.proofs.is_open.Tie as tie
+
+in-rule-requires : tie.Need-in-rule-requires
+in-rule-requires c κs = search needs
+
+in-rule-requires-2 : tie.Need-in-rule-requires-2
+in-rule-requires-2 c κs = search needs
+
+is-sound-requires : tie.Need-is-sound-requires
+is-sound-requires c κs = search needs
+
+is-sound-requires-2 : tie.Need-is-sound-requires-2
+is-sound-requires-2 c κs = search needs
+
+returns : tie.Need-returns
+returns c =
+    let a = c .before .before .before .before .args in
+    open-of (a .a) (a .tx) (a .rx) (a .write) (a .read) _ _ _ _ (c .before .before .before .in-rule .ensures) (c .before .before .in-rule2 .ensures) (c .before .is-sound .ensures) (c .is-sound2 .ensures)
+
+pub is-open-spec : {M : Type 1} → statement M
+is-open-spec =
+    tie.close
+    (tie.spec in-rule-requires in-rule-requires-2 is-sound-requires is-sound-requires-2 returns)

@@ -1,0 +1,233 @@
+// The calls on messages: reserve, room, send, drop, view, done, and the two questions (01, "Blocks and framing").
+ghost use mathlib.Core.Path.{_≡_};
+ghost use Prim.Native.Nat.{_+_};
+ghost use lib.ListN.{length, take, drop as dropped};
+ghost use Rattle.wire.specs.Bytes.{wrote};
+ghost use Rattle.icbmsg.specs.Outcome.{withoutWrites};
+ghost use Rattle.link.specs.Answers.{answered, outcomeOf, endOf};
+ghost use Rattle.icbmsg.specs.Messages.{reserveOf, roomOf, sendOf, dropOf, viewOf, doneOf, roomQuestion, viewQuestion};
+use crate::Answer;
+use crate::Called;
+use crate::End;
+use crate::is_open;
+use blocks::Found;
+use blocks::RunAt;
+use blocks::Use;
+use endpoints::Addressee;
+use refusal::Refusal;
+
+impl End {
+    // Reserves the blocks of a message of k bytes.
+    pub fn reserve(mut self, k: u32) -> Called
+        ensures { λ r. ⌜ outcomeOf r ≡ reserveOf (endOf self) k ⌝ }
+    {
+        if !is_open(self.align, self.tx, self.rx, self.write, self.read) {
+            return Called {
+                answer: Answer::Refused(Refusal::WrongRegion),
+                end: self,
+            };
+        }
+        let n = blocks::least_blocks(self.tx.size, k);
+        if (self.tx.count as usize) < n {
+            return Called {
+                answer: Answer::Refused(Refusal::CannotFit),
+                end: self,
+            };
+        }
+        let sent = self.sent;
+        match blocks::lowest_run(sent, self.tx.count, n) {
+            Found::Nowhere => Called {
+                answer: Answer::Refused(Refusal::NoRoom),
+                end: self,
+            },
+            Found::At(s) => {
+                let taken = blocks::take_run(sent, Use::Reserved, s, n, 0, 0);
+                self.sent = taken;
+                Called {
+                    answer: Answer::Run {
+                        start: s as u32,
+                        count: n as u32,
+                    },
+                    end: self,
+                }
+            }
+        }
+    }
+
+    // The writable part of a reservation: after its header, to the end of its last block. Empty on a refusal.
+    pub fn room(self, tx: &mut [u8], start: u32) -> &mut [u8]
+        ensures bytes { λ r. ⌜ now r ≡ take (roomOf (endOf self) (length (now (tx .entry))) start .size) (dropped (roomOf (endOf self) (length (now (tx .entry))) start .begin) (now (tx .entry))) ⌝ }
+        ensures place { λ r. ⌜ (r .ptr .0 ≡ tx .entry .ptr .0) × (r .ptr .1 ≡ tx .entry .ptr .1 + roomOf (endOf self) (length (now (tx .entry))) start .begin) ⌝ }
+    {
+        let opened = is_open(self.align, self.tx, self.rx, self.write, self.read);
+        if !(opened & (tx.len() == self.tx.bytes as usize)) {
+            return &mut tx[0..0];
+        }
+        let sent = self.sent;
+        match blocks::run_at(sent, Use::Reserved, self.tx.count, start) {
+            RunAt::Nothing => &mut tx[0..0],
+            RunAt::Live(x) => {
+                let size = self.tx.size as usize;
+                let block = self.tx.blocks as usize + start as usize * size;
+                let begin = block + 4;
+                let end = block + x.count as usize * size;
+                &mut tx[begin..end]
+            }
+        }
+    }
+
+    // Whether `room` would give a room, with `lent` bytes lent.
+    pub fn ask_room(self, start: u32, lent: usize) -> Answer
+        ensures { λ r. ⌜ answered r (endOf self) ≡ roomQuestion (endOf self) start lent ⌝ }
+    {
+        let opened = is_open(self.align, self.tx, self.rx, self.write, self.read);
+        if !(opened & (lent == self.tx.bytes as usize)) {
+            return Answer::Refused(Refusal::WrongRegion);
+        }
+        let sent = self.sent;
+        match blocks::run_at(sent, Use::Reserved, self.tx.count, start) {
+            RunAt::Nothing => Answer::Refused(Refusal::NoMessage),
+            RunAt::Live(_) => Answer::Accepted,
+        }
+    }
+
+    // Sends the first k bytes of a reservation's room: writes the header, and frees the blocks beyond the need.
+    pub fn send(mut self, tx: &mut [u8], start: u32, address: u32, k: u32) -> Called
+        ensures answer { λ r. ⌜ outcomeOf r ≡ withoutWrites (sendOf (endOf self) (length (now (tx .entry))) start address k) ⌝ }
+        ensures tx { λ _. ⌜ now (tx .exit) ≡ wrote (now (tx .entry)) (sendOf (endOf self) (length (now (tx .entry))) start address k .tx) ⌝ }
+    {
+        let opened = is_open(self.align, self.tx, self.rx, self.write, self.read);
+        if !(opened & (tx.len() == self.tx.bytes as usize)) {
+            return Called {
+                answer: Answer::Refused(Refusal::WrongRegion),
+                end: self,
+            };
+        }
+        let sent = self.sent;
+        let RunAt::Live(x) = blocks::run_at(sent, Use::Reserved, self.tx.count, start) else {
+            return Called {
+                answer: Answer::Refused(Refusal::NoMessage),
+                end: self,
+            };
+        };
+        let endpoints = self.endpoints;
+        let Addressee::Bound(to) = endpoints::find_addressee(endpoints, address) else {
+            return Called {
+                answer: Answer::Refused(Refusal::NotBound),
+                end: self,
+            };
+        };
+        let s = start as usize;
+        let size = self.tx.size as usize;
+        if x.count as usize * size < k as usize + 4 {
+            return Called {
+                answer: Answer::Refused(Refusal::CannotFit),
+                end: self,
+            };
+        }
+        let n = blocks::least_blocks(self.tx.size, k);
+        wire::write_u32(tx, self.tx.blocks as usize + s * size, k);
+        let freed = blocks::free_run(sent, s, x.count as usize);
+        let taken = blocks::take_run(freed, Use::SentData, s, n, to, k);
+        self.sent = taken;
+        Called {
+            answer: Answer::Control {
+                kind: 0,
+                address: to,
+                block: start as u8,
+            },
+            end: self,
+        }
+    }
+
+    // Drops a reservation that is not sent.
+    pub fn drop(mut self, start: u32) -> Called
+        ensures { λ r. ⌜ outcomeOf r ≡ dropOf (endOf self) start ⌝ }
+    {
+        if !is_open(self.align, self.tx, self.rx, self.write, self.read) {
+            return Called {
+                answer: Answer::Refused(Refusal::WrongRegion),
+                end: self,
+            };
+        }
+        let sent = self.sent;
+        match blocks::run_at(sent, Use::Reserved, self.tx.count, start) {
+            RunAt::Nothing => Called {
+                answer: Answer::Refused(Refusal::NoMessage),
+                end: self,
+            },
+            RunAt::Live(x) => {
+                let freed = blocks::free_run(sent, start as usize, x.count as usize);
+                self.sent = freed;
+                Called {
+                    answer: Answer::Accepted,
+                    end: self,
+                }
+            }
+        }
+    }
+
+    // The bytes of a received data message, of the length recorded at its arrival. Empty on a refusal.
+    pub fn view(self, rx: &[u8], start: u32) -> &[u8]
+        ensures bytes { λ r. ⌜ now r ≡ take (viewOf (endOf self) (length (now (rx .entry))) start .size) (dropped (viewOf (endOf self) (length (now (rx .entry))) start .begin) (now (rx .entry))) ⌝ }
+        ensures place { λ r. ⌜ (r .ptr .0 ≡ rx .entry .ptr .0) × (r .ptr .1 ≡ rx .entry .ptr .1 + viewOf (endOf self) (length (now (rx .entry))) start .begin) ⌝ }
+    {
+        let opened = is_open(self.align, self.tx, self.rx, self.write, self.read);
+        if !(opened & (rx.len() == self.rx.bytes as usize)) {
+            return &rx[0..0];
+        }
+        let held = self.held;
+        match blocks::data_at(held, self.rx.count, self.rx.size, start) {
+            RunAt::Nothing => &rx[0..0],
+            RunAt::Live(x) => {
+                let begin = self.rx.blocks as usize + start as usize * self.rx.size as usize + 4;
+                let end = begin + x.length as usize;
+                &rx[begin..end]
+            }
+        }
+    }
+
+    // Whether `view` would give a message's bytes, with `lent` bytes lent.
+    pub fn ask_view(self, start: u32, lent: usize) -> Answer
+        ensures { λ r. ⌜ answered r (endOf self) ≡ viewQuestion (endOf self) start lent ⌝ }
+    {
+        let opened = is_open(self.align, self.tx, self.rx, self.write, self.read);
+        if !(opened & (lent == self.rx.bytes as usize)) {
+            return Answer::Refused(Refusal::WrongRegion);
+        }
+        let held = self.held;
+        match blocks::data_at(held, self.rx.count, self.rx.size, start) {
+            RunAt::Nothing => Answer::Refused(Refusal::NoMessage),
+            RunAt::Live(_) => Answer::Accepted,
+        }
+    }
+
+    // Ends the reading of a received data message: its blocks are free again.
+    pub fn done(mut self, start: u32) -> Called
+        ensures { λ r. ⌜ outcomeOf r ≡ doneOf (endOf self) start ⌝ }
+    {
+        if !is_open(self.align, self.tx, self.rx, self.write, self.read) {
+            return Called {
+                answer: Answer::Refused(Refusal::WrongRegion),
+                end: self,
+            };
+        }
+        let held = self.held;
+        let RunAt::Live(x) = blocks::data_at(held, self.rx.count, self.rx.size, start) else {
+            return Called {
+                answer: Answer::Refused(Refusal::NoMessage),
+                end: self,
+            };
+        };
+        let freed = blocks::free_run(held, start as usize, x.count as usize);
+        self.held = freed;
+        Called {
+            answer: Answer::Control {
+                kind: 1,
+                address: 0,
+                block: start as u8,
+            },
+            end: self,
+        }
+    }
+}

@@ -1,0 +1,128 @@
+// Opening an end (01, "Region layout").
+ghost use mathlib.Core.Path.{_≡_};
+ghost use Prim.Native.Nat.{_≤_, _<_};
+ghost use Rattle.refusal.specs.Numbers.{numberOf};
+ghost use Rattle.region.specs.Layout.{outcomeOf as layoutOf};
+ghost use Rattle.region.specs.declared.LayoutAnswer.{LayoutAnswer};
+ghost use Rattle.link.specs.Answers.{endOf, openedOf};
+ghost use Rattle.icbmsg.specs.Opening.{opening, region as regionRule, fresh as freshRule, closedWith};
+use crate::Answer;
+use crate::Called;
+use crate::End;
+use blocks::Entry;
+use blocks::Use;
+use endpoints::Binding;
+use endpoints::Endpoint;
+use endpoints::Stage;
+use icbmsg::Bounds;
+use icbmsg::Opening;
+use icbmsg::Region;
+use refusal::Refusal;
+use region::LayoutAnswer;
+use region::RegionLayout;
+
+const FREE: Entry = Entry {
+    usage: Use::Free,
+    address: 0,
+    count: 0,
+    length: 0,
+};
+
+const NO_ENDPOINT: Endpoint = Endpoint {
+    stage: Stage::Unused,
+    address: 0,
+    name: [0; 32],
+};
+
+const NO_BINDING: Binding = Binding {
+    stored: false,
+    address: 0,
+    start: 0,
+    count: 0,
+    name: [0; 32],
+};
+
+const NO_REGION: Region = Region {
+    bytes: 0,
+    base: 0,
+    ring: 0,
+    blocks: 0,
+    count: 0,
+    size: 0,
+};
+
+// The numbers of a region that is laid out so. Its first byte, at the raw begin, is position 0.
+fn placed_region(b: Bounds, y: RegionLayout) -> Region
+    requires { ⌜ (b .begin ≤ b .end) × (b .begin ≤ y .begin) × (b .begin ≤ y .blocks) × (b .blocks < 65536) ⌝ }
+    ensures { λ r. ⌜ r ≡ regionRule b (layoutOf (LayoutAnswer.Accepted y)) ⌝ }
+{
+    Region {
+        bytes: b.end - b.begin,
+        base: y.begin - b.begin,
+        ring: y.data,
+        blocks: y.blocks - b.begin,
+        count: b.blocks as u16,
+        size: y.block,
+    }
+}
+
+impl End {
+    // An end on which nothing has happened yet.
+    fn fresh(initiator: bool, align: u16, tx: Region, rx: Region) -> End
+        ensures { λ r. ⌜ endOf r ≡ freshRule initiator align tx rx ⌝ }
+    {
+        End {
+            initiator,
+            align,
+            tx,
+            rx,
+            write: 0,
+            read: 0,
+            sent: [FREE; End::BLOCKS],
+            held: [FREE; End::BLOCKS],
+            endpoints: [NO_ENDPOINT; End::ENDPOINTS],
+            bindings: [NO_BINDING; End::BINDINGS],
+        }
+    }
+
+    // A refused opening gives a closed end, which answers 6 to every call.
+    fn closed(x: Refusal) -> Called
+        ensures { λ r. ⌜ openedOf r ≡ closedWith (numberOf x) ⌝ }
+    {
+        Called {
+            answer: Answer::Refused(x),
+            end: End::fresh(false, 0, NO_REGION, NO_REGION),
+        }
+    }
+
+    // Opens an end: checks the transmit region, then the receive region, then that they share no byte.
+    pub fn open(o: Opening) -> Called
+        ensures { λ r. ⌜ openedOf r ≡ opening o ⌝ }
+    {
+        let tx = o.tx;
+        let rx = o.rx;
+        match region::layout(tx.begin, tx.end, tx.blocks, rx.blocks, o.align) {
+            LayoutAnswer::Refused(x) => End::closed(x),
+            LayoutAnswer::Accepted(t) => {
+                match region::layout(rx.begin, rx.end, rx.blocks, tx.blocks, o.align) {
+                    LayoutAnswer::Refused(x) => End::closed(x),
+                    LayoutAnswer::Accepted(r) => {
+                        if (tx.end <= rx.begin) | (rx.end <= tx.begin) {
+                            Called {
+                                answer: Answer::Accepted,
+                                end: End::fresh(
+                                    rx.begin < tx.begin,
+                                    o.align as u16,
+                                    placed_region(tx, t),
+                                    placed_region(rx, r),
+                                ),
+                            }
+                        } else {
+                            End::closed(Refusal::Overlap)
+                        }
+                    }
+                }
+            }
+        }
+    }
+}
