@@ -24,13 +24,13 @@ use Rattle.endpoints.specs.declared.Stage.the-variants.{Bound}
 use Rattle.icbmsg.specs.Outcome.{Outcome, refused, accepted, check}
 use Rattle.icbmsg.specs.Ends.{isOpen, whole, changed, withSent, withHeld}
 use Rattle.icbmsg.specs.Arrivals.{decode, fitsArea, areFree, sizeAt, dataRule, releaseOf, releasedBoundOf, storedAt, boundNamed, boundRule, decodedRule, arrivalRule}
-use Rattle.link.specs.Measuring.{placeNumber, measuredNumber, MeasuredAs, Lent}
+use Rattle.checks.specs.Measuring.{placeNumber, measuredNumber, MeasuredAs, Lent}
 use Rattle.icbmsg.specs.Reading.{contentAt}
 use Rattle.link.proofs.OpenSays.{open-says}
 use Rattle.icbmsg.proofs.ArrivingBytes.{received, data-flat, withName, bound-flat}
 use Rattle.icbmsg.specs.declared.Control.{Control}
-use Rattle.link.specs.declared.Measured.{Measured}
-use Rattle.link.specs.declared.Measured.the-variants.{Fits}
+use Rattle.checks.specs.declared.Measured.{Measured}
+use Rattle.checks.specs.declared.Measured.the-variants.{Fits}
 use Rattle.icbmsg.specs.declared.Region.{Region}
 use Rattle.icbmsg.specs.End.{End}
 

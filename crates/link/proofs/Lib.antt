@@ -1,8 +1,6 @@
 pub mod OpenSays
 pub mod RingCalls
 pub mod MessageCalls
-pub mod Decoding
-pub mod Measuring
 pub mod OpeningCall
 pub mod ArrivalCalls
 pub mod RegisterCalls

@@ -1,7 +1,7 @@
 -- Register: each way out of its rule, by the facts that the code has there.
 use Prim.Native.Nat.{ℕ, _+_, _≤_, _<_}
 use mathlib.Core.Bool.{true, false, not, _&&_}
-use mathlib.Core.Path.{_≡_, refl, sym, ap, _∙_}
+use mathlib.Core.Path.{_≡_, refl}
 use mathlib.Core.List.{List, [], _∷_, _++_}
 use native.Mathlib.Omega.{arith}
 use lib.Dec.{leb, ltb, eqb}
@@ -9,8 +9,6 @@ use lib.ListN.{length, getD, set}
 use borrow.Author.Tests.{le-leb, lt-leb, leb-true}
 use Rattle.wire.specs.Bytes.{littleEndian, straight, writes, wrote, same}
 use Rattle.wire.proofs.Choices.{both}
-use Rattle.wire.proofs.Numbers.{length-littleEndian}
-use Rattle.wire.proofs.Positions.{wrote-append, writes-append, writes-same}
 use Rattle.blocks.specs.Search.{Search, nowhere, foundAt, any}
 use Rattle.blocks.specs.Tables.{freed, taken, blocksFor, freeRun, lies}
 use Rattle.blocks.specs.declared.Use.the-variants.{SentBinding}
@@ -35,29 +33,6 @@ good-length n h =
     (leb-true 1 (length n) (b .0), leb-true (length n) 31 (b .1))
 
 -- ---- the initiator
-
--- header, name and zero, one behind the other
-pub binding-written : (s : List ℕ) (p k : ℕ) (n : List ℕ) →
-    wrote (wrote (wrote s (writes (straight p) (littleEndian 4 k))) (writes (straight (p + 4)) n)) (writes (straight (p + 4 + length n)) (0 ∷ []))
-    ≡ wrote s (writes (straight p) (littleEndian 4 k ++ n ++ (0 ∷ [])))
-unfolding littleEndian
-binding-written s p k n =
-    sym (
-    ap (wrote s) (
-    writes-append (straight p) (littleEndian 4 k) (n ++ (0 ∷ []))
-    ∙ ap (λ (ws : List (ℕ × ℕ)). writes (straight p) (littleEndian 4 k) ++ ws) (
-    writes-same _ (straight (p + 4)) (n ++ (0 ∷ [])) (λ j l. omega (arith, length-littleEndian 4 k))
-    ∙ writes-append (straight (p + 4)) n (0 ∷ [])
-    ∙ ap (λ (ws : List (ℕ × ℕ)). writes (straight (p + 4)) n ++ ws) (writes-same _ (straight (p + 4 + length n)) (0 ∷ []) (λ j l. omega arith))
-    )
-    )
-    ∙ wrote-append s (writes (straight p) (littleEndian 4 k)) (writes (straight (p + 4)) n ++ writes (straight (p + 4 + length n)) (0 ∷ []))
-    ∙ wrote-append (wrote s (writes (straight p) (littleEndian 4 k))) (writes (straight (p + 4)) n) (writes (straight (p + 4 + length n)) (0 ∷ []))
-    )
-
-pub written-in-three : (s s₁ s₂ s₃ : List ℕ) (p k : ℕ) (n n′ : List ℕ) → s₁ ≡ wrote s (writes (straight p) (littleEndian 4 k)) → s₂ ≡ wrote s₁ (writes (straight (p + 4)) n′) → n′ ≡ n →
-    s₃ ≡ wrote s₂ (writes (straight (p + 4 + length n)) (0 ∷ [])) → s₃ ≡ wrote s (writes (straight p) (littleEndian 4 k ++ n ++ (0 ∷ [])))
-written-in-three s s₁ s₂ s₃ p k n n′ h i j l = l ∙ rw (i, h, j) (binding-written s p k n)
 
 module _ (e : End) (n : List ℕ) (i m : ℕ) (q : m ≡ blocksFor (e .tx .size) (length n + 1)) where
   pub initiate-23 : e .tx .count < m → initiates e n i ≡ refused e 23

@@ -7,17 +7,14 @@ ghost use Rattle.wire.specs.Bytes.{straight, bytes};
 ghost use Rattle.wire.specs.Reads.{answer};
 ghost use Rattle.link.specs.Answers.{outcomeOf, endOf};
 ghost use Rattle.icbmsg.specs.Ends.{isOpen};
-ghost use Rattle.icbmsg.specs.Arrivals.{decode as decodeRule, dataRule, releaseOf, boundRule, boundNamed, storedAt, releasedBoundOf, arrivalRule, sizeAt};
-ghost use Rattle.link.specs.Measuring.{placeNumber, measuredNumber, MeasuredAs, Lent};
+ghost use Rattle.icbmsg.specs.Arrivals.{dataRule, releaseOf, boundRule, boundNamed, storedAt, releasedBoundOf, arrivalRule};
 use crate::Answer;
 use crate::Called;
 use crate::End;
-use crate::Measured;
-use crate::is_open;
-use blocks::Entry;
 use blocks::Found;
 use blocks::RunAt;
 use blocks::Use;
+use checks::Measured;
 use endpoints::Addressee;
 use endpoints::Binding;
 use endpoints::BindingTest;
@@ -25,60 +22,9 @@ use endpoints::Endpoint;
 use endpoints::EndpointTest;
 use endpoints::Stage;
 use icbmsg::Control;
-use icbmsg::Region;
 use refusal::Refusal;
 
 const LAST_ADDRESS: u8 = 0xFD;
-
-fn decode(message: &[u8]) -> Control
-    ensures { λ r. ⌜ r ≡ decodeRule (now (message .entry)) ⌝ }
-{
-    if message.len() == 0 {
-        return Control::TooShort;
-    }
-    let kind = message[0];
-    if 3 < kind {
-        return Control::UnknownKind;
-    }
-    if message.len() < 3 {
-        return Control::TooShort;
-    }
-    let address = message[1];
-    let block = message[2];
-    match kind {
-        0 => Control::DataSent { address, block },
-        1 => Control::DataReleased(block),
-        2 => Control::BindingSent { address, block },
-        _ => Control::BindingReleased { address, block },
-    }
-}
-
-// Measures the message in receive block b: checks 16, 17 and 18. Its size is read here, and nowhere again.
-fn measure(rx: &[u8], g: Region, held: [Entry; 256], b: u8) -> Measured
-    requires { ⌜ Lent (length (now rx)) g ⌝ }
-    ensures number { λ r. ⌜ measuredNumber r ≡ placeNumber g held b (sizeAt g b (now (rx .entry))) ⌝ }
-    ensures size { λ r. ⌜ MeasuredAs r g b (sizeAt g b (now (rx .entry))) ⌝ }
-{
-    let s = b as usize;
-    let count = g.count as usize;
-    let size = g.size as usize;
-    if count <= s {
-        return Measured::Refused(Refusal::BadBlock);
-    }
-    let k = wire::read_u32(rx, g.blocks as usize + s * size);
-    if (count - s) * size < k as usize + 4 {
-        return Measured::Refused(Refusal::PastTheLastBlock);
-    }
-    let n = blocks::least_blocks(g.size, k);
-    if blocks::all_free(held, s, n) {
-        Measured::Fits {
-            length: k,
-            count: n,
-        }
-    } else {
-        Measured::Refused(Refusal::BlockHeld)
-    }
-}
 
 impl End {
     // Kind 0: a data message has arrived.
@@ -100,7 +46,7 @@ impl End {
             };
         };
         let held = self.held;
-        match measure(rx, self.rx, held, block) {
+        match checks::measure(rx, self.rx, held, block) {
             Measured::Refused(x) => Called {
                 answer: Answer::Refused(x),
                 end: self,
@@ -241,7 +187,7 @@ impl End {
             };
         }
         let held = self.held;
-        match measure(rx, self.rx, held, block) {
+        match checks::measure(rx, self.rx, held, block) {
             Measured::Refused(x) => Called {
                 answer: Answer::Refused(x),
                 end: self,
@@ -305,14 +251,14 @@ impl End {
     pub fn arrival(self, rx: &[u8], message: &[u8]) -> Called
         ensures { λ r. ⌜ outcomeOf r ≡ answer (arrivalRule (endOf self) (length (now (rx .entry))) (now (message .entry))) (now (rx .entry)) ⌝ }
     {
-        let opened = is_open(self.align, self.tx, self.rx, self.write, self.read);
+        let opened = checks::is_open(self.align, self.tx, self.rx, self.write, self.read);
         if !(opened & (rx.len() == self.rx.bytes as usize)) {
             return Called {
                 answer: Answer::Refused(Refusal::WrongRegion),
                 end: self,
             };
         }
-        match decode(message) {
+        match checks::decode(message) {
             Control::TooShort => Called {
                 answer: Answer::Refused(Refusal::TooShort),
                 end: self,

@@ -6,9 +6,6 @@ mod openings;
 mod registrations;
 mod rings;
 
-ghost use mathlib.Core.Path.{_≡_};
-ghost use Rattle.blocks.specs.Search.{all};
-ghost use Rattle.icbmsg.specs.Ends.{soundRegion, openNumbers};
 use blocks::Entry;
 use endpoints::Binding;
 use endpoints::Endpoint;
@@ -42,12 +39,6 @@ impl End {
     pub const LONGEST_NAME: usize = 31;
 }
 
-// An arriving message, measured: its length and how many blocks it takes, or why it is refused.
-pub enum Measured {
-    Refused(Refusal),
-    Fits { length: u32, count: usize },
-}
-
 // What a call answers. Ring calls answer as the ring does.
 pub enum Answer {
     // Accepted, with nothing more to say.
@@ -71,33 +62,4 @@ pub struct Called {
 pub struct RingCalled {
     pub answer: RingAnswer,
     pub end: End,
-}
-
-// Whether header, ring data and blocks of a region at alignment a lie one behind the other inside the region's bytes.
-fn is_sound(a: u16, g: Region) -> bool
-    ensures { λ r. ⌜ r ≡ all (soundRegion a g) ⌝ }
-{
-    let align = a as u64;
-    let base = g.base as u64;
-    let ring = g.ring as u64;
-    let blocks = g.blocks as u64;
-    let bytes = g.bytes as u64;
-    let size = g.size as u64;
-    let count = g.count as u64;
-    (32 <= ring)
-        & ((ring % 4 == 0)
-            & ((base + (align + 4) + ring <= blocks)
-                & ((blocks + count * size <= bytes)
-                    & ((bytes <= 1048576) & ((1 <= count) & ((count <= 256) & (4 <= size)))))))
-}
-
-// Whether the numbers are those of an open end. They come one by one, so that no call copies its end for this.
-fn is_open(a: u16, tx: Region, rx: Region, write: u32, read: u32) -> bool
-    ensures { λ r. ⌜ r ≡ openNumbers a tx rx write read ⌝ }
-{
-    (4 <= a)
-        & ((a <= 256)
-            & ((a % 4 == 0)
-                & (icmsg::in_rule(tx.ring, write)
-                    & (icmsg::in_rule(rx.ring, read) & (is_sound(a, tx) & is_sound(a, rx))))))
 }

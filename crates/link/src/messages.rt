@@ -9,7 +9,6 @@ ghost use Rattle.icbmsg.specs.Messages.{reserveOf, roomOf, sendOf, dropOf, view
 use crate::Answer;
 use crate::Called;
 use crate::End;
-use crate::is_open;
 use blocks::Found;
 use blocks::RunAt;
 use blocks::Use;
@@ -21,7 +20,7 @@ impl End {
     pub fn reserve(mut self, k: u32) -> Called
         ensures { λ r. ⌜ outcomeOf r ≡ reserveOf (endOf self) k ⌝ }
     {
-        if !is_open(self.align, self.tx, self.rx, self.write, self.read) {
+        if !checks::is_open(self.align, self.tx, self.rx, self.write, self.read) {
             return Called {
                 answer: Answer::Refused(Refusal::WrongRegion),
                 end: self,
@@ -59,7 +58,7 @@ impl End {
         ensures bytes { λ r. ⌜ now r ≡ take (roomOf (endOf self) (length (now (tx .entry))) start .size) (dropped (roomOf (endOf self) (length (now (tx .entry))) start .begin) (now (tx .entry))) ⌝ }
         ensures place { λ r. ⌜ (r .ptr .0 ≡ tx .entry .ptr .0) × (r .ptr .1 ≡ tx .entry .ptr .1 + roomOf (endOf self) (length (now (tx .entry))) start .begin) ⌝ }
     {
-        let opened = is_open(self.align, self.tx, self.rx, self.write, self.read);
+        let opened = checks::is_open(self.align, self.tx, self.rx, self.write, self.read);
         if !(opened & (tx.len() == self.tx.bytes as usize)) {
             return &mut tx[0..0];
         }
@@ -80,7 +79,7 @@ impl End {
     pub fn ask_room(self, start: u32, lent: usize) -> Answer
         ensures { λ r. ⌜ answered r (endOf self) ≡ roomQuestion (endOf self) start lent ⌝ }
     {
-        let opened = is_open(self.align, self.tx, self.rx, self.write, self.read);
+        let opened = checks::is_open(self.align, self.tx, self.rx, self.write, self.read);
         if !(opened & (lent == self.tx.bytes as usize)) {
             return Answer::Refused(Refusal::WrongRegion);
         }
@@ -96,7 +95,7 @@ impl End {
         ensures answer { λ r. ⌜ outcomeOf r ≡ withoutWrites (sendOf (endOf self) (length (now (tx .entry))) start address k) ⌝ }
         ensures tx { λ _. ⌜ now (tx .exit) ≡ wrote (now (tx .entry)) (sendOf (endOf self) (length (now (tx .entry))) start address k .tx) ⌝ }
     {
-        let opened = is_open(self.align, self.tx, self.rx, self.write, self.read);
+        let opened = checks::is_open(self.align, self.tx, self.rx, self.write, self.read);
         if !(opened & (tx.len() == self.tx.bytes as usize)) {
             return Called {
                 answer: Answer::Refused(Refusal::WrongRegion),
@@ -144,7 +143,7 @@ impl End {
     pub fn drop(mut self, start: u32) -> Called
         ensures { λ r. ⌜ outcomeOf r ≡ dropOf (endOf self) start ⌝ }
     {
-        if !is_open(self.align, self.tx, self.rx, self.write, self.read) {
+        if !checks::is_open(self.align, self.tx, self.rx, self.write, self.read) {
             return Called {
                 answer: Answer::Refused(Refusal::WrongRegion),
                 end: self,
@@ -172,7 +171,7 @@ impl End {
         ensures bytes { λ r. ⌜ now r ≡ take (viewOf (endOf self) (length (now (rx .entry))) start .size) (dropped (viewOf (endOf self) (length (now (rx .entry))) start .begin) (now (rx .entry))) ⌝ }
         ensures place { λ r. ⌜ (r .ptr .0 ≡ rx .entry .ptr .0) × (r .ptr .1 ≡ rx .entry .ptr .1 + viewOf (endOf self) (length (now (rx .entry))) start .begin) ⌝ }
     {
-        let opened = is_open(self.align, self.tx, self.rx, self.write, self.read);
+        let opened = checks::is_open(self.align, self.tx, self.rx, self.write, self.read);
         if !(opened & (rx.len() == self.rx.bytes as usize)) {
             return &rx[0..0];
         }
@@ -191,7 +190,7 @@ impl End {
     pub fn ask_view(self, start: u32, lent: usize) -> Answer
         ensures { λ r. ⌜ answered r (endOf self) ≡ viewQuestion (endOf self) start lent ⌝ }
     {
-        let opened = is_open(self.align, self.tx, self.rx, self.write, self.read);
+        let opened = checks::is_open(self.align, self.tx, self.rx, self.write, self.read);
         if !(opened & (lent == self.rx.bytes as usize)) {
             return Answer::Refused(Refusal::WrongRegion);
         }
@@ -206,7 +205,7 @@ impl End {
     pub fn done(mut self, start: u32) -> Called
         ensures { λ r. ⌜ outcomeOf r ≡ doneOf (endOf self) start ⌝ }
     {
-        if !is_open(self.align, self.tx, self.rx, self.write, self.read) {
+        if !checks::is_open(self.align, self.tx, self.rx, self.write, self.read) {
             return Called {
                 answer: Answer::Refused(Refusal::WrongRegion),
                 end: self,

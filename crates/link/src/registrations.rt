@@ -13,7 +13,6 @@ ghost use Rattle.icbmsg.specs.Registering.{initiates, followed, registerOf};
 use crate::Answer;
 use crate::Called;
 use crate::End;
-use crate::is_open;
 use blocks::Found;
 use blocks::Use;
 use endpoints::Binding;
@@ -30,18 +29,6 @@ const NO_BINDING: Binding = Binding {
     count: 0,
     name: [0; 32],
 };
-
-// Writes a binding message at p: the length of name and zero, the name, and the zero.
-fn write_binding(tx: &mut [u8], p: usize, name: &[u8])
-    requires { ⌜ (length (now name) ≤ 31) × (p + length (now name) + 5 ≤ length (now tx)) ⌝ }
-    ensures { λ _. ⌜ now (tx .exit) ≡ wrote (now (tx .entry)) (writes (straight p) (littleEndian 4 (length (now (name .entry)) + 1) ++ now (name .entry) ++ (0 ∷ []))) ⌝ }
-{
-    let n = name.len();
-    wire::write_u32(tx, p, n as u32 + 1);
-    wire::copy(tx, p + 4, name, 0, n);
-    let zero = [0u8; 1];
-    wire::copy(tx, p + 4 + n, &zero, 0, 1);
-}
 
 impl End {
     // Sends a binding for the endpoint at place i, which then waits.
@@ -67,7 +54,7 @@ impl End {
         };
         let endpoints = self.endpoints;
         let address = endpoints::unused_address(endpoints);
-        write_binding(
+        endpoints::write_binding(
             tx,
             self.tx.blocks as usize + s * self.tx.size as usize,
             name,
@@ -138,7 +125,7 @@ impl End {
         ensures answer { λ r. ⌜ outcomeOf r ≡ withoutWrites (registerOf (endOf self) (length (now (tx .entry))) (now (name .entry))) ⌝ }
         ensures tx { λ _. ⌜ now (tx .exit) ≡ wrote (now (tx .entry)) (registerOf (endOf self) (length (now (tx .entry))) (now (name .entry)) .tx) ⌝ }
     {
-        let opened = is_open(self.align, self.tx, self.rx, self.write, self.read);
+        let opened = checks::is_open(self.align, self.tx, self.rx, self.write, self.read);
         if !(opened & (tx.len() == self.tx.bytes as usize)) {
             return Called {
                 answer: Answer::Refused(Refusal::WrongRegion),

@@ -8,7 +8,6 @@ ghost use Rattle.link.specs.Answers.{ringOutcomeOf, endOf};
 ghost use Rattle.icbmsg.specs.Rings.{ringOf, startOf, pushOf, pullRule};
 use crate::End;
 use crate::RingCalled;
-use crate::is_open;
 use icbmsg::Region;
 use icmsg::Ring;
 use icmsg::RingAnswer;
@@ -31,7 +30,7 @@ impl End {
         ensures answer { λ r. ⌜ ringOutcomeOf r ≡ withoutWrites (startOf (endOf self) (length (now (tx .entry)))) ⌝ }
         ensures tx { λ _. ⌜ now (tx .exit) ≡ wrote (now (tx .entry)) (startOf (endOf self) (length (now (tx .entry))) .tx) ⌝ }
     {
-        let opened = is_open(self.align, self.tx, self.rx, self.write, self.read);
+        let opened = checks::is_open(self.align, self.tx, self.rx, self.write, self.read);
         if !(opened & (tx.len() == self.tx.bytes as usize)) {
             return RingCalled {
                 answer: RingAnswer::Refused(Refusal::WrongRegion),
@@ -53,7 +52,7 @@ impl End {
         ensures answer { λ r. ⌜ ringOutcomeOf r ≡ withoutWrites (pushOf (endOf self) (now (tx .entry)) (now (content .entry))) ⌝ }
         ensures tx { λ _. ⌜ now (tx .exit) ≡ wrote (now (tx .entry)) (pushOf (endOf self) (now (tx .entry)) (now (content .entry)) .tx) ⌝ }
     {
-        let opened = is_open(self.align, self.tx, self.rx, self.write, self.read);
+        let opened = checks::is_open(self.align, self.tx, self.rx, self.write, self.read);
         if !(opened & (tx.len() == self.tx.bytes as usize)) {
             return RingCalled {
                 answer: RingAnswer::Refused(Refusal::WrongRegion),
@@ -76,7 +75,7 @@ impl End {
         ensures rx { λ _. ⌜ now (rx .exit) ≡ wrote (now (rx .entry)) (answer (pullRule (endOf self) (length (now (rx .entry))) (length (now (buffer .entry)))) (now (rx .entry)) .rx) ⌝ }
         ensures buffer { λ _. ⌜ now (buffer .exit) ≡ wrote (now (buffer .entry)) (answer (pullRule (endOf self) (length (now (rx .entry))) (length (now (buffer .entry)))) (now (rx .entry)) .buffer) ⌝ }
     {
-        let opened = is_open(self.align, self.tx, self.rx, self.write, self.read);
+        let opened = checks::is_open(self.align, self.tx, self.rx, self.write, self.read);
         if !(opened & (rx.len() == self.rx.bytes as usize)) {
             return RingCalled {
                 answer: RingAnswer::Refused(Refusal::WrongRegion),

@@ -9,8 +9,8 @@ use Rattle.blocks.specs.Tables.{blocksFor}
 use Rattle.blocks.specs.declared.Entry.{Entry}
 use Rattle.icbmsg.specs.Arrivals.{fitsArea, areFree}
 use Rattle.icbmsg.specs.declared.Region.{Region}
-use Rattle.link.specs.declared.Measured.{Measured}
-use Rattle.link.specs.declared.Measured.the-variants.{Refused, Fits}
+use Rattle.checks.specs.declared.Measured.{Measured}
+use Rattle.checks.specs.declared.Measured.the-variants.{Refused, Fits}
 
 -- 16, 17, 18, for K bytes in block b of a region whose table is t
 abbrev pub placeNumber : Region → List Entry → ℕ → ℕ → ℕ

@@ -1,7 +1,7 @@
-use Rattle.link.proofs.OpenSays.{open-of}
+use Rattle.checks.proofs.OpenNumbers.{open-of}
 use borrow.Author.Needs.{needs}
-use Rattle.link.proofs.is_open.Statement.{statement}
-use Rattle.link.proofs.is_open.Tie as tie
+use Rattle.checks.proofs.is_open.Statement.{statement}
+use Rattle.checks.proofs.is_open.Tie as tie
 
 in-rule-requires : tie.Need-in-rule-requires
 in-rule-requires c κs = search needs

@@ -6,10 +6,10 @@ use denote.Ref.{now}
 use Rattle.wire.specs.Bytes.{bytes}
 use Rattle.blocks.specs.Tables.{allFree, blocksFor}
 use Rattle.icbmsg.specs.Arrivals.{sizeAt}
-use Rattle.link.proofs.Measuring.{bad-block, past-the-last, block-held, all-three, header-inside, rest-inside, need-inside}
+use Rattle.checks.proofs.Measuring.{bad-block, past-the-last, block-held, all-three, header-inside, rest-inside, need-inside}
 use borrow.Author.Needs.{needs}
-use Rattle.link.proofs.arrivals.measure.Statement.{statement}
-use Rattle.link.proofs.arrivals.measure.Tie as tie
+use Rattle.checks.proofs.measure.Statement.{statement}
+use Rattle.checks.proofs.measure.Tie as tie
 
 -- the header lies in the lent bytes
 header : (c : tie.Else1) → let a = c .before .before .before .before .args in a .g .blocks + a .b * a .g .size + 4 ≤ length (now (a .rx))

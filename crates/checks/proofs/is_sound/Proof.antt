@@ -2,8 +2,8 @@ use native.Mathlib.Omega.{arith}
 use Rattle.wire.proofs.Choices.{and-pick, pick-same}
 use Rattle.wire.proofs.Numbers.{mul-small}
 use borrow.Author.Needs.{needs}
-use Rattle.link.proofs.is_sound.Statement.{statement}
-use Rattle.link.proofs.is_sound.Tie as tie
+use Rattle.checks.proofs.is_sound.Statement.{statement}
+use Rattle.checks.proofs.is_sound.Tie as tie
 
 cast-base : tie.Need-cast-base
 cast-base c = search needs

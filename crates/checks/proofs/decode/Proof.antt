@@ -1,8 +1,8 @@
 use denote.Ref.{now}
-use Rattle.link.proofs.Decoding.{empty, unknown, short, data-sent, data-released, binding-sent, binding-released}
+use Rattle.checks.proofs.Decoding.{empty, unknown, short, data-sent, data-released, binding-sent, binding-released}
 use borrow.Author.Needs.{needs}
-use Rattle.link.proofs.arrivals.decode.Statement.{statement}
-use Rattle.link.proofs.arrivals.decode.Tie as tie
+use Rattle.checks.proofs.decode.Statement.{statement}
+use Rattle.checks.proofs.decode.Tie as tie
 
 returns : tie.Need-returns
 returns c = empty (now (c .before .args .message)) (c .if1 .taken)

@@ -3,10 +3,10 @@ use lib.ListN.{length}
 use denote.Ref.{now}
 use Rattle.wire.specs.Bytes.{bytes}
 use Rattle.wire.proofs.Positions.{bytes-all}
-use Rattle.link.proofs.RegisterCalls.{written-in-three}
+use Rattle.endpoints.proofs.BindingMessage.{written-in-three}
 use borrow.Author.Needs.{needs}
-use Rattle.link.proofs.registrations.write_binding.Statement.{statement}
-use Rattle.link.proofs.registrations.write_binding.Tie as tie
+use Rattle.endpoints.proofs.write_binding.Statement.{statement}
+use Rattle.endpoints.proofs.write_binding.Tie as tie
 
 cast-write-u32 : tie.Need-cast-write-u32
 cast-write-u32 c = search needs

@@ -9,7 +9,7 @@ use borrow.Author.Tests.{le-leb, lt-leb, le-ltb, lt-ltb}
 use Rattle.blocks.specs.Tables.{allFree, blocksFor}
 use Rattle.blocks.specs.declared.Entry.{Entry}
 use Rattle.blocks.proofs.LeastBlocks.{blocks-hold, blocks-least, blocks-one}
-use Rattle.link.specs.Measuring.{placeNumber, Lent}
+use Rattle.checks.specs.Measuring.{placeNumber, Lent}
 use Rattle.icbmsg.specs.declared.Region.{Region}
 
 module _ (g : Region) (t : List Entry) (b k : ℕ) where
