@@ -2,13 +2,15 @@
 
 CFLAGS = -std=c99 -O2 -Wall -Wextra -Wpedantic -Werror -Iinclude
 library = target/staticlib/libpanel.a
+rounds = target/staticlib/librounds.a
 sources = crates.txt $(shell find crates -name '*.rt' -o -name '*.antt')
 examples = layout ring
 
 .PHONY: demo test bench library second examples-test clean
 
-demo: $(examples:%=target/examples/%)
+demo: $(examples:%=target/examples/%) target/bin/demo
 	@set -e; for name in $(examples); do target/examples/$$name; echo; done
+	@target/bin/demo
 
 test:
 	.ci/run
@@ -17,6 +19,13 @@ library: $(library)
 
 $(library): $(sources)
 	rt staticlib panel
+
+$(rounds): $(sources)
+	rt staticlib rounds
+
+target/bin/demo: $(sources)
+	rt check demo
+	@touch $@
 
 target/examples/%: examples/%.c include/petrelknob.h $(library)
 	@mkdir -p $(@D)
@@ -27,12 +36,17 @@ examples-test: $(examples:%=target/examples/%)
 	set -e; for name in $(examples); do target/examples/$$name | diff examples/$$name.expected -; done
 
 # Nanoseconds of the proved code and of plain C, side by side.
-bench: target/bench/ring
+bench: target/bench/ring target/bench/calls
 	target/bench/ring
+	target/bench/calls
 
 target/bench/ring: bench/ring.c bench/plain_ring.c bench/plain_ring.h include/petrelknob.h $(library)
 	@mkdir -p $(@D)
 	gcc $(CFLAGS) -Ibench -o $@ bench/ring.c bench/plain_ring.c $(library)
+
+target/bench/calls: bench/calls.c bench/plain_end.c bench/plain_end.h bench/rounds.h $(rounds)
+	@mkdir -p $(@D)
+	gcc $(CFLAGS) -Ibench -o $@ bench/calls.c bench/plain_end.c $(rounds)
 
 second: $(library)
 	cargo build --release --offline --quiet --manifest-path second/Cargo.toml --target-dir target/second

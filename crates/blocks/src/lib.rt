@@ -214,11 +214,12 @@ pub fn take_run(
     requires { ⌜ (1 ≤ n) × (s + n ≤ 256) ⌝ }
     ensures { λ r. ⌜ r ≡ taken table u s n address length ⌝ }
 {
+    let count = n as u16;
     let mut t = fill(table, s, n, INSIDE);
     t[s] = Entry {
         usage: u,
         address,
-        count: n as u16,
+        count,
         length,
     };
     t

@@ -1,0 +1,218 @@
+/* The calls of the proved end and of the plain C end side by side: nanoseconds for a call, by the regions' size and block counts. Both
+ * make the same rounds of calls, and a checksum of what the calls answered is compared. The least of all runs counts. */
+#define _POSIX_C_SOURCE 199309L
+#include "plain_end.h"
+#include "rounds.h"
+
+#include <stdio.h>
+#include <stdlib.h>
+#include <time.h>
+
+enum { ALIGNMENT = 32, RX_BEGIN = 0x20000000, TX_BEGIN = 0x20100000, LARGEST = 1048576, ROUNDS = 20000, RUNS = 41 };
+
+/* What a round is made on: the alignment, then the transmit and the receive region. An initiator's receive region is the lower one. */
+struct scene {
+    uint32_t opening[7];
+    uint32_t bytes;
+    uint32_t taken;
+    uint32_t k;
+};
+
+/* The fields of the proved end, as crates/link declares it and crates/icbmsg its regions, for its size. */
+struct proved_region {
+    uint32_t bytes, base, ring, blocks;
+    uint16_t count;
+    uint32_t size;
+};
+
+struct proved_end {
+    bool initiator;
+    uint16_t align;
+    struct proved_region tx, rx;
+    uint32_t write, read;
+    struct plain_entry sent[PLAIN_BLOCKS], held[PLAIN_BLOCKS];
+    struct plain_endpoint endpoints[PLAIN_ENDPOINTS];
+    struct plain_binding bindings[PLAIN_BINDINGS];
+};
+
+typedef uint32_t rounds_call(const struct scene *scene);
+
+static uint8_t tx[LARGEST];
+static uint8_t rx[LARGEST];
+
+static double seconds(void)
+{
+    struct timespec now;
+    clock_gettime(CLOCK_MONOTONIC, &now);
+    return (double)now.tv_sec + 1e-9 * (double)now.tv_nsec;
+}
+
+/* ---- rounds of the plain end: the same calls as in crates/rounds, and the same checksum */
+
+static uint32_t number_of_refusal(uint32_t number)
+{
+    return number ? 1000000 + number : 1;
+}
+
+static uint32_t number_of_run(uint32_t number, uint32_t start, uint32_t count)
+{
+    return number ? 1000000 + number : start % 1024 + count % 1024 * 1024;
+}
+
+static uint32_t number_of_control(uint32_t number, const uint8_t control[3])
+{
+    return number ? 1000000 + number : control[0] * 65536u + control[1] * 256u + control[2];
+}
+
+static uint32_t number_of_arrival(uint32_t number, const struct plain_outcome *o)
+{
+    if (number || o->what == PLAIN_NOTHING)
+        return number_of_refusal(number);
+    if (o->what == PLAIN_CONTROL)
+        return o->kind * 65536u + o->address * 256u + o->block;
+    return o->address * 256u + o->block + o->length % 65536 * 65536;
+}
+
+static uint32_t open_end(struct plain_end *end, const struct scene *scene)
+{
+    const uint32_t *o = scene->opening;
+    return plain_open(end, o[0], (struct plain_bounds){o[1], o[2], o[3]}, (struct plain_bounds){o[4], o[5], o[6]});
+}
+
+static void bind_endpoint(struct plain_end *end, const struct scene *scene)
+{
+    static const uint8_t released[3] = {3, 0, 0};
+    struct plain_outcome outcome;
+    plain_register(end, tx, scene->bytes, "bench", 5, &outcome);
+    plain_arrival(end, rx, scene->bytes, released, sizeof released, &outcome);
+}
+
+static uint32_t plain_reserves(const struct scene *scene)
+{
+    static struct plain_end end;
+    uint32_t sum = 0, start = 256, count = 0;
+    open_end(&end, scene);
+    for (uint32_t i = 0; i < scene->taken; i++)
+        plain_reserve(&end, 0, &start, &count);
+    for (uint32_t i = 0; i < ROUNDS; i++) {
+        uint32_t number = plain_reserve(&end, scene->k, &start, &count);
+        sum += number_of_run(number, start, count);
+        sum += number_of_refusal(plain_drop(&end, number ? 256 : start));
+    }
+    return sum;
+}
+
+static uint32_t plain_sends(const struct scene *scene)
+{
+    static const uint8_t released[3] = {1, 0, 0};
+    static struct plain_end end;
+    struct plain_outcome outcome;
+    uint8_t control[3];
+    uint32_t sum = 0, start = 256, count = 0;
+    open_end(&end, scene);
+    bind_endpoint(&end, scene);
+    for (uint32_t i = 0; i < ROUNDS; i++) {
+        uint32_t number = plain_reserve(&end, scene->k, &start, &count);
+        sum += number_of_run(number, start, count);
+        number = plain_send(&end, tx, scene->bytes, number ? 256 : start, 0, scene->k, control);
+        sum += number_of_control(number, control);
+        number = plain_arrival(&end, rx, scene->bytes, released, sizeof released, &outcome);
+        sum += number_of_arrival(number, &outcome);
+    }
+    return sum;
+}
+
+static uint32_t plain_arrivals(const struct scene *scene)
+{
+    static const uint8_t sent[3] = {0, 0, 0};
+    static struct plain_end end;
+    struct plain_outcome outcome;
+    uint8_t control[3];
+    uint32_t sum = 0;
+    open_end(&end, scene);
+    bind_endpoint(&end, scene);
+    for (uint32_t i = 0; i < ROUNDS; i++) {
+        uint32_t number = plain_arrival(&end, rx, scene->bytes, sent, sizeof sent, &outcome);
+        sum += number_of_arrival(number, &outcome);
+        number = plain_done(&end, 0, control);
+        sum += number_of_control(number, control);
+    }
+    return sum;
+}
+
+/* ---- rounds of the proved end */
+
+static uint32_t proved_reserves(const struct scene *scene)
+{
+    return petrelknob_rounds_reserve(scene->opening, scene->taken, scene->k, ROUNDS);
+}
+
+static uint32_t proved_sends(const struct scene *scene)
+{
+    return petrelknob_rounds_send(scene->opening, tx, scene->bytes, rx, scene->bytes, scene->k, ROUNDS);
+}
+
+static uint32_t proved_arrivals(const struct scene *scene)
+{
+    return petrelknob_rounds_arrival(scene->opening, tx, scene->bytes, rx, scene->bytes, ROUNDS);
+}
+
+/* ---- the table */
+
+static double nanoseconds(rounds_call *rounds, const struct scene *scene, uint32_t *sum)
+{
+    double began = seconds();
+    *sum = rounds(scene);
+    return 1e9 * (seconds() - began) / ROUNDS;
+}
+
+static void compare(const char *what, rounds_call *plain, rounds_call *proved, int calls, const struct scene *scene)
+{
+    double a = 1e9, b = 1e9;
+    for (int r = 0; r < RUNS; r++) {
+        uint32_t of_plain, of_proved;
+        double t = nanoseconds(plain, scene, &of_plain);
+        a = t < a ? t : a;
+        t = nanoseconds(proved, scene, &of_proved);
+        b = t < b ? t : b;
+        if (of_plain != of_proved) {
+            fprintf(stderr, "%s: the two ends answered differently, %u and %u\n", what, (unsigned)of_plain,
+                    (unsigned)of_proved);
+            exit(1);
+        }
+    }
+    printf("  %-42s %8.1f %8.1f %8.1f\n", what, a / calls, b / calls, b / a);
+}
+
+static void region_of(uint32_t bytes, uint32_t tx_blocks, uint32_t rx_blocks)
+{
+    static struct plain_end end;
+    struct scene scene = {{ALIGNMENT, TX_BEGIN, TX_BEGIN + bytes, tx_blocks, RX_BEGIN, RX_BEGIN + bytes, rx_blocks}, bytes, 0, 8};
+    if (open_end(&end, &scene) != 0) {
+        fprintf(stderr, "the opening was refused\n");
+        exit(1);
+    }
+    rx[end.rx.first_block] = 8; /* the arriving message's header: 8 bytes */
+    printf("%u bytes, %u and %u blocks\n", (unsigned)bytes, (unsigned)tx_blocks, (unsigned)rx_blocks);
+    compare("reserve and drop, one block", plain_reserves, proved_reserves, 2, &scene);
+    compare("reserve, send and release, one block", plain_sends, proved_sends, 3, &scene);
+    compare("arrival and done, one block", plain_arrivals, proved_arrivals, 2, &scene);
+    scene.taken = tx_blocks - 1;
+    compare("reserve and drop, the last free block", plain_reserves, proved_reserves, 2, &scene);
+    scene.taken = 0;
+    scene.k = tx_blocks * end.tx.block_size - 4;
+    compare("reserve and drop, all blocks", plain_reserves, proved_reserves, 2, &scene);
+    compare("reserve, send and release, all blocks", plain_sends, proved_sends, 3, &scene);
+    rx[end.rx.first_block] = 0;
+}
+
+int main(void)
+{
+    printf("nanoseconds for a call                        plain C   proved    ratio\n");
+    region_of(2048, 16, 32);
+    region_of(65536, 256, 256);
+    region_of(LARGEST, 16, 16);
+    printf("size of an end in bytes: plain C %zu, proved %zu (by its fields)\n", sizeof(struct plain_end),
+           sizeof(struct proved_end));
+    return 0;
+}

@@ -1,0 +1,409 @@
+#include "plain_end.h"
+
+#include <string.h>
+
+/* A cleared entry is a free one, a cleared endpoint an unused one. */
+enum { FREE, INSIDE, RESERVED, SENT_DATA, SENT_BINDING, RECEIVED, STORED };
+enum { UNUSED, WAITING, BOUND };
+enum { HEADER = 4, LAST_ADDRESS = 0xFD };
+
+static uint32_t load(const uint8_t *p)
+{
+    return p[0] | (uint32_t)p[1] << 8 | (uint32_t)p[2] << 16 | (uint32_t)p[3] << 24;
+}
+
+static void store(uint8_t *p, uint32_t value)
+{
+    p[0] = (uint8_t)value;
+    p[1] = (uint8_t)(value >> 8);
+    p[2] = (uint8_t)(value >> 16);
+    p[3] = (uint8_t)(value >> 24);
+}
+
+/* ---- opening */
+
+/* Checks 1 to 4. */
+static uint32_t lay_out(struct plain_region *region, struct plain_bounds bounds, uint32_t remote, uint32_t alignment)
+{
+    if (alignment < 4 || alignment > 256 || (alignment & (alignment - 1)))
+        return 1;
+    if (bounds.blocks < 1 || bounds.blocks > PLAIN_BLOCKS || remote < 1 || remote > PLAIN_BLOCKS)
+        return 2;
+    if (bounds.begin >= bounds.end || bounds.end - bounds.begin > 1048576)
+        return 3;
+    uint64_t first = ((uint64_t)bounds.begin + alignment - 1) & ~(uint64_t)(alignment - 1);
+    uint64_t last = bounds.end & ~(uint64_t)(alignment - 1);
+    uint64_t minimum = alignment + 4 + 8 * (bounds.blocks + remote + 2);
+    if (last < first + minimum)
+        return 4;
+    uint32_t size = (uint32_t)(last - first - minimum) / bounds.blocks & ~(alignment - 1);
+    if (size == 0)
+        return 4;
+    region->bytes = bounds.end - bounds.begin;
+    region->first_block = (uint32_t)(last - bounds.begin) - bounds.blocks * size;
+    region->blocks = bounds.blocks;
+    region->block_size = size;
+    return 0;
+}
+
+uint32_t plain_open(struct plain_end *end, uint32_t alignment, struct plain_bounds tx, struct plain_bounds rx)
+{
+    memset(end, 0, sizeof *end);
+    struct plain_region out, in;
+    uint32_t number = lay_out(&out, tx, rx.blocks, alignment);
+    if (!number)
+        number = lay_out(&in, rx, tx.blocks, alignment);
+    if (number)
+        return number;
+    if (tx.begin < rx.end && rx.begin < tx.end)
+        return 5;
+    end->open = true;
+    end->initiator = rx.begin < tx.begin;
+    end->tx = out;
+    end->rx = in;
+    return 0;
+}
+
+/* ---- blocks */
+
+static uint32_t blocks_for(const struct plain_region *region, uint32_t k)
+{
+    return (uint32_t)(((uint64_t)k + HEADER + region->block_size - 1) / region->block_size);
+}
+
+/* The lowest start of n free blocks, or -1. */
+static int find_run(const struct plain_entry *table, uint32_t blocks, uint32_t n)
+{
+    uint32_t run = 0;
+    for (uint32_t i = 0; i < blocks; i++) {
+        if (table[i].use != FREE)
+            run = 0;
+        else if (++run == n)
+            return (int)(i + 1 - n);
+    }
+    return -1;
+}
+
+static void take_run(struct plain_entry *table, uint32_t start, uint32_t n, uint8_t use, uint8_t address, uint32_t length)
+{
+    table[start] = (struct plain_entry){use, address, (uint16_t)n, length};
+    for (uint32_t i = start + 1; i < start + n; i++)
+        table[i] = (struct plain_entry){INSIDE, 0, 0, 0};
+}
+
+static void free_run(struct plain_entry *table, uint32_t start, uint32_t n)
+{
+    memset(table + start, 0, n * sizeof *table);
+}
+
+/* The entry of the run that starts there in that use, or a null pointer. */
+static struct plain_entry *run_at(struct plain_entry *table, uint32_t blocks, uint32_t start, uint8_t use)
+{
+    return start < blocks && table[start].use == use ? &table[start] : NULL;
+}
+
+/* Checks 23 and 24. */
+static uint32_t find_room(const struct plain_end *end, uint32_t k, uint32_t *start, uint32_t *count)
+{
+    uint32_t n = blocks_for(&end->tx, k);
+    if (n > end->tx.blocks)
+        return 23;
+    int found = find_run(end->sent, end->tx.blocks, n);
+    if (found < 0)
+        return 24;
+    *start = (uint32_t)found;
+    *count = n;
+    return 0;
+}
+
+uint32_t plain_reserve(struct plain_end *end, uint32_t k, uint32_t *start, uint32_t *count)
+{
+    if (!end->open)
+        return 6;
+    uint32_t number = find_room(end, k, start, count);
+    if (number)
+        return number;
+    take_run(end->sent, *start, *count, RESERVED, 0, 0);
+    return 0;
+}
+
+uint32_t plain_drop(struct plain_end *end, uint32_t start)
+{
+    if (!end->open)
+        return 6;
+    struct plain_entry *run = run_at(end->sent, end->tx.blocks, start, RESERVED);
+    if (!run)
+        return 25;
+    free_run(end->sent, start, run->count);
+    return 0;
+}
+
+static struct plain_endpoint *endpoint_at(struct plain_end *end, uint8_t stage, uint32_t address)
+{
+    for (int i = 0; i < PLAIN_ENDPOINTS; i++)
+        if (end->endpoints[i].stage == stage && end->endpoints[i].address == address)
+            return &end->endpoints[i];
+    return NULL;
+}
+
+uint32_t plain_send(struct plain_end *end, uint8_t *tx, size_t tx_length, uint32_t start, uint32_t address, uint32_t k,
+                    uint8_t control[3])
+{
+    if (!end->open || tx_length != end->tx.bytes)
+        return 6;
+    struct plain_entry *run = run_at(end->sent, end->tx.blocks, start, RESERVED);
+    if (!run)
+        return 25;
+    if (!endpoint_at(end, BOUND, address))
+        return 15;
+    if ((uint64_t)k + HEADER > run->count * end->tx.block_size)
+        return 23;
+    store(tx + end->tx.first_block + start * end->tx.block_size, k);
+    uint32_t n = blocks_for(&end->tx, k);
+    free_run(end->sent, start + n, run->count - n);
+    *run = (struct plain_entry){SENT_DATA, (uint8_t)address, (uint16_t)n, k};
+    control[0] = 0;
+    control[1] = (uint8_t)address;
+    control[2] = (uint8_t)start;
+    return 0;
+}
+
+uint32_t plain_done(struct plain_end *end, uint32_t start, uint8_t control[3])
+{
+    if (!end->open)
+        return 6;
+    struct plain_entry *run = run_at(end->held, end->rx.blocks, start, RECEIVED);
+    if (!run)
+        return 25;
+    free_run(end->held, start, run->count);
+    control[0] = 1;
+    control[1] = 0;
+    control[2] = (uint8_t)start;
+    return 0;
+}
+
+/* ---- arrivals */
+
+/* Checks 16, 17 and 18. The size is read here and nowhere again. */
+static uint32_t measure(const struct plain_end *end, const uint8_t *rx, uint8_t block, uint32_t *k, uint32_t *count)
+{
+    const struct plain_region *region = &end->rx;
+    if (block >= region->blocks)
+        return 16;
+    *k = load(rx + region->first_block + block * region->block_size);
+    if ((uint64_t)*k + HEADER > (region->blocks - block) * region->block_size)
+        return 17;
+    *count = blocks_for(region, *k);
+    for (uint32_t i = block; i < block + *count; i++)
+        if (end->held[i].use != FREE)
+            return 18;
+    return 0;
+}
+
+static uint32_t data_arrives(struct plain_end *end, const uint8_t *rx, uint8_t address, uint8_t block,
+                             struct plain_outcome *outcome)
+{
+    uint32_t k, count;
+    if (address > LAST_ADDRESS)
+        return 14;
+    if (!endpoint_at(end, BOUND, address))
+        return 15;
+    uint32_t number = measure(end, rx, block, &k, &count);
+    if (number)
+        return number;
+    take_run(end->held, block, count, RECEIVED, address, k);
+    *outcome = (struct plain_outcome){PLAIN_DELIVERED, 0, address, block, k};
+    return 0;
+}
+
+static uint32_t data_is_released(struct plain_end *end, uint8_t block)
+{
+    if (block >= end->tx.blocks)
+        return 16;
+    struct plain_entry *run = run_at(end->sent, end->tx.blocks, block, SENT_DATA);
+    if (!run)
+        return 25;
+    free_run(end->sent, block, run->count);
+    return 0;
+}
+
+static struct plain_binding *free_binding(struct plain_end *end)
+{
+    for (int i = 0; i < PLAIN_BINDINGS; i++)
+        if (!end->bindings[i].stored)
+            return &end->bindings[i];
+    return NULL;
+}
+
+/* Whether the address or the name belongs to a bound endpoint or a stored binding. */
+static bool is_taken(const struct plain_end *end, uint8_t address, const char *name)
+{
+    for (int i = 0; i < PLAIN_ENDPOINTS; i++) {
+        const struct plain_endpoint *e = &end->endpoints[i];
+        if (e->stage == BOUND && (e->address == address || !strcmp(e->name, name)))
+            return true;
+    }
+    for (int i = 0; i < PLAIN_BINDINGS; i++) {
+        const struct plain_binding *b = &end->bindings[i];
+        if (b->stored && (b->address == address || !strcmp(b->name, name)))
+            return true;
+    }
+    return false;
+}
+
+static uint32_t binding_arrives(struct plain_end *end, const uint8_t *rx, uint8_t address, uint8_t block,
+                                struct plain_outcome *outcome)
+{
+    uint32_t k, count;
+    if (end->initiator)
+        return 19;
+    if (address > LAST_ADDRESS)
+        return 14;
+    uint32_t number = measure(end, rx, block, &k, &count);
+    if (number)
+        return number;
+    const uint8_t *text = rx + end->rx.first_block + block * end->rx.block_size + HEADER;
+    const uint8_t *zero = memchr(text, 0, k < PLAIN_NAME ? k : PLAIN_NAME);
+    if (!zero || zero == text)
+        return 20;
+    char name[PLAIN_NAME] = {0};
+    memcpy(name, text, (size_t)(zero - text));
+    if (is_taken(end, address, name))
+        return 21;
+    for (int i = 0; i < PLAIN_ENDPOINTS; i++) {
+        struct plain_endpoint *e = &end->endpoints[i];
+        if (e->stage == WAITING && !strcmp(e->name, name)) {
+            e->stage = BOUND;
+            e->address = address;
+            *outcome = (struct plain_outcome){PLAIN_CONTROL, 3, address, block, 0};
+            return 0;
+        }
+    }
+    struct plain_binding *b = free_binding(end);
+    if (!b)
+        return 22;
+    *b = (struct plain_binding){true, address, block, (uint16_t)count, {0}};
+    memcpy(b->name, name, sizeof name);
+    take_run(end->held, block, count, STORED, address, 0);
+    return 0;
+}
+
+static uint32_t binding_is_released(struct plain_end *end, uint8_t address, uint8_t block)
+{
+    if (address > LAST_ADDRESS)
+        return 14;
+    if (block >= end->tx.blocks)
+        return 16;
+    struct plain_entry *run = run_at(end->sent, end->tx.blocks, block, SENT_BINDING);
+    if (!run || run->address != address)
+        return 25;
+    free_run(end->sent, block, run->count);
+    struct plain_endpoint *e = endpoint_at(end, WAITING, address);
+    if (e)
+        e->stage = BOUND;
+    return 0;
+}
+
+uint32_t plain_arrival(struct plain_end *end, const uint8_t *rx, size_t rx_length, const uint8_t *message,
+                       size_t message_length, struct plain_outcome *outcome)
+{
+    if (!end->open || rx_length != end->rx.bytes)
+        return 6;
+    if (message_length == 0)
+        return 12;
+    if (message[0] > 3)
+        return 13;
+    if (message_length < 3)
+        return 12;
+    outcome->what = PLAIN_NOTHING;
+    switch (message[0]) {
+    case 0:
+        return data_arrives(end, rx, message[1], message[2], outcome);
+    case 1:
+        return data_is_released(end, message[2]);
+    case 2:
+        return binding_arrives(end, rx, message[1], message[2], outcome);
+    default:
+        return binding_is_released(end, message[1], message[2]);
+    }
+}
+
+/* ---- registering */
+
+static uint8_t unused_address(const struct plain_end *end)
+{
+    bool used[PLAIN_ENDPOINTS + 1] = {false};
+    for (int i = 0; i < PLAIN_ENDPOINTS; i++) {
+        const struct plain_endpoint *e = &end->endpoints[i];
+        if (e->stage != UNUSED && e->address < PLAIN_ENDPOINTS)
+            used[e->address] = true;
+    }
+    uint8_t address = 0;
+    while (used[address])
+        address++;
+    return address;
+}
+
+/* The initiator sends a binding, and the endpoint waits. */
+static uint32_t initiate(struct plain_end *end, struct plain_endpoint *e, uint8_t *tx, const char *name, size_t n,
+                         struct plain_outcome *outcome)
+{
+    uint32_t start, count, k = (uint32_t)n + 1;
+    uint32_t number = find_room(end, k, &start, &count);
+    if (number)
+        return number;
+    e->address = unused_address(end);
+    e->stage = WAITING;
+    memcpy(e->name, name, PLAIN_NAME);
+    take_run(end->sent, start, count, SENT_BINDING, e->address, k);
+    uint8_t *message = tx + end->tx.first_block + start * end->tx.block_size;
+    store(message, k);
+    memcpy(message + HEADER, name, k);
+    *outcome = (struct plain_outcome){PLAIN_CONTROL, 2, e->address, (uint8_t)start, 0};
+    return 0;
+}
+
+/* The follower waits, unless a binding of the name is stored. */
+static void follow(struct plain_end *end, struct plain_endpoint *e, const char *name, struct plain_outcome *outcome)
+{
+    e->address = 0;
+    e->stage = WAITING;
+    memcpy(e->name, name, PLAIN_NAME);
+    for (int i = 0; i < PLAIN_BINDINGS; i++) {
+        struct plain_binding *b = &end->bindings[i];
+        if (b->stored && !strcmp(b->name, name)) {
+            e->address = b->address;
+            e->stage = BOUND;
+            free_run(end->held, b->start, b->count);
+            *outcome = (struct plain_outcome){PLAIN_CONTROL, 3, b->address, (uint8_t)b->start, 0};
+            memset(b, 0, sizeof *b);
+            return;
+        }
+    }
+}
+
+uint32_t plain_register(struct plain_end *end, uint8_t *tx, size_t tx_length, const char *name, size_t name_length,
+                        struct plain_outcome *outcome)
+{
+    if (!end->open || tx_length != end->tx.bytes)
+        return 6;
+    if (name_length < 1 || name_length >= PLAIN_NAME || memchr(name, 0, name_length))
+        return 20;
+    char kept[PLAIN_NAME] = {0};
+    memcpy(kept, name, name_length);
+    struct plain_endpoint *unused = NULL;
+    for (int i = PLAIN_ENDPOINTS - 1; i >= 0; i--) {
+        struct plain_endpoint *e = &end->endpoints[i];
+        if (e->stage == UNUSED)
+            unused = e;
+        else if (!strcmp(e->name, kept))
+            return 21;
+    }
+    if (!unused)
+        return 22;
+    outcome->what = PLAIN_NOTHING;
+    if (end->initiator)
+        return initiate(end, unused, tx, kept, name_length, outcome);
+    follow(end, unused, kept, outcome);
+    return 0;
+}

@@ -1,0 +1,244 @@
+// A line of output, put together before it is written. What does not fit is left out.
+use blocks::Entry;
+use blocks::Use;
+use icmsg::RingAnswer;
+use refusal::Refusal;
+
+const WIDTH: usize = 120;
+
+// The columns of a call's text, of the last digit of its number, and of its values.
+const CALL: usize = 7;
+
+const NUMBER: usize = 39;
+
+pub const VALUES: usize = 42;
+
+pub struct Line {
+    bytes: [u8; WIDTH],
+    length: usize,
+}
+
+impl Line {
+    pub fn new() -> Line {
+        Line {
+            bytes: [b' '; WIDTH],
+            length: 0,
+        }
+    }
+
+    // The line of a call by the panel core's end, which is the initiator, or by the pump core's.
+    pub fn by(initiator: bool) -> Line {
+        Line::new().end_name(initiator).to(CALL)
+    }
+
+    // A line that is no call stands back.
+    pub fn picture() -> Line {
+        Line::new().to(CALL)
+    }
+
+    pub fn end_name(self, initiator: bool) -> Line {
+        if initiator {
+            self.text(b"panel")
+        } else {
+            self.text(b"pump")
+        }
+    }
+
+    pub fn byte(mut self, b: u8) -> Line {
+        let n = self.length;
+        if n < WIDTH {
+            self.bytes[n] = b;
+            self.length = n + 1;
+        }
+        self
+    }
+
+    // The bytes behind the text are spaces already.
+    pub fn to(mut self, column: usize) -> Line {
+        if (self.length < column) & (column <= WIDTH) {
+            self.length = column;
+        }
+        self
+    }
+
+    pub fn text(self, s: &[u8]) -> Line {
+        let mut line = self;
+        let mut i = 0;
+        while i < s.len() {
+            line = line.byte(s[i]);
+            i += 1;
+        }
+        line
+    }
+
+    // A name ends at its first zero.
+    pub fn name(self, name: [u8; 32]) -> Line {
+        let mut line = self;
+        let mut i = 0;
+        while i < 32 {
+            if name[i] == 0 {
+                return line;
+            }
+            line = line.byte(name[i]);
+            i += 1;
+        }
+        line
+    }
+
+    pub fn number(self, n: u32) -> Line {
+        let mut digits = [0u8; 20];
+        let k = io::decimal(n as u64, &mut digits);
+        self.text(&digits[..k])
+    }
+
+    pub fn hex(self, n: u32, width: usize) -> Line {
+        let mut digits = [0u8; 16];
+        let k = io::hex(n as u64, width, &mut digits);
+        self.text(&digits[..k])
+    }
+
+    // A space and two digits for each byte.
+    pub fn hex_bytes(self, s: &[u8]) -> Line {
+        let mut line = self;
+        let mut i = 0;
+        while i < s.len() {
+            line = line.byte(b' ').hex(wire::wide(s[i]), 2);
+            i += 1;
+        }
+        line
+    }
+
+    // A count with its unit, which is in the plural but for one.
+    pub fn counted(self, n: u32, unit: &[u8]) -> Line {
+        let line = self.number(n).text(b" ").text(unit);
+        if n == 1 { line } else { line.text(b"s") }
+    }
+
+    pub fn print(self) {
+        self.byte(b'\n').write();
+    }
+
+    fn write(self) {
+        let bytes = self.bytes;
+        write_first(&bytes, self.length);
+    }
+
+    // ---- answers
+
+    pub fn accepted(self) -> Line {
+        self.to(NUMBER).text(b"0")
+    }
+
+    pub fn refused(self, x: Refusal) -> Line {
+        let n = x.number();
+        let column = if n < 10 { NUMBER } else { NUMBER - 1 };
+        self.to(column).number(n).to(VALUES).meaning(x)
+    }
+
+    pub fn run(self, start: u32, count: u32) -> Line {
+        let line = self.to(VALUES).text(b"start ").number(start);
+        line.text(b", ").counted(count, b"block")
+    }
+
+    pub fn control(self, kind: u8, address: u8, block: u8) -> Line {
+        let bytes = [kind, address, block];
+        self.to(VALUES).text(b"to push:").hex_bytes(&bytes)
+    }
+
+    pub fn delivered(self, address: u8, block: u8, length: u32) -> Line {
+        let line = self.to(VALUES)
+            .text(b"address ")
+            .number(wire::wide(address));
+        let line = line.text(b", block ").number(wire::wide(block));
+        line.text(b", ").counted(length, b"byte")
+    }
+
+    pub fn ring_answer(self, a: RingAnswer) -> Line {
+        match a {
+            RingAnswer::Refused(x) => self.refused(x),
+            RingAnswer::Accepted { length, index } => self.accepted().packet(length, index),
+        }
+    }
+
+    pub fn packet(self, length: u32, index: u32) -> Line {
+        let line = self.to(VALUES).counted(length, b"byte");
+        line.text(b", own index ").number(index)
+    }
+
+    // What a refusal means, in three parts: of regions and rings, of arriving control messages, and the rest.
+    fn meaning(self, x: Refusal) -> Line {
+        match x {
+            Refusal::BadAlignment => self.text(b"alignment outside the limits"),
+            Refusal::BadBlockCount => self.text(b"block count outside the limits"),
+            Refusal::BadBounds => self.text(b"bounds outside the limits"),
+            Refusal::TooSmall => self.text(b"region too small"),
+            Refusal::Overlap => self.text(b"the regions share a byte"),
+            Refusal::WrongRegion => self.text(b"not the region, or a closed end"),
+            Refusal::BadIndex => self.text(b"partner's index out of rule"),
+            Refusal::Empty => self.text(b"ring empty"),
+            Refusal::BrokenPacket => self.text(b"packet longer than the unread bytes"),
+            Refusal::Full => self.text(b"ring full"),
+            Refusal::TooLong => self.text(b"content too long"),
+            _ => self.control_meaning(x),
+        }
+    }
+
+    fn control_meaning(self, x: Refusal) -> Line {
+        match x {
+            Refusal::TooShort => self.text(b"control message too short"),
+            Refusal::UnknownKind => self.text(b"unknown kind"),
+            Refusal::BadAddress => self.text(b"address above 0xFD"),
+            Refusal::NotBound => self.text(b"no bound endpoint has the address"),
+            Refusal::BadBlock => self.text(b"block number not below the count"),
+            Refusal::PastTheLastBlock => self.text(b"K + 4 runs past the last block"),
+            Refusal::BlockHeld => self.text(b"a block of it is held"),
+            _ => self.call_meaning(x),
+        }
+    }
+
+    fn call_meaning(self, x: Refusal) -> Line {
+        match x {
+            Refusal::NotFollower => self.text(b"binding sent to an initiator"),
+            Refusal::BadName => self.text(b"name outside the limits"),
+            Refusal::NameTaken => self.text(b"name or address taken"),
+            Refusal::NoPlace => self.text(b"eight are there already"),
+            Refusal::CannotFit => self.text(b"longer than can fit"),
+            Refusal::NoRoom => self.text(b"no run of free blocks is long enough"),
+            _ => self.text(b"no such message starts there"),
+        }
+    }
+
+    // ---- tables
+
+    // A letter for each of the first `count` blocks.
+    pub fn table(self, entries: [Entry; 256], count: u16) -> Line {
+        let mut line = self.text(b" [");
+        let end = wire::least(count as usize, 256);
+        let mut i = 0;
+        while i < end {
+            let x = entries[i];
+            let u = x.usage;
+            line = line.byte(letter(u));
+            i += 1;
+        }
+        line.byte(b']')
+    }
+}
+
+fn letter(u: Use) -> u8 {
+    match u {
+        Use::Free => b'.',
+        Use::Inside => b'-',
+        Use::Reserved => b'R',
+        Use::SentData => b'S',
+        Use::SentBinding => b'B',
+        Use::ReceivedData => b'D',
+        Use::StoredBinding => b'b',
+    }
+}
+
+// Writes the first n bytes, or all where there are fewer.
+fn write_first(bytes: &[u8], n: usize) {
+    let n = wire::least(n, bytes.len());
+    io::write_all(1, &bytes[..n]);
+}

@@ -1,0 +1,69 @@
+use Prim.Native.Nat.{_-_, _≤_, _<_}
+use borrow.Author.Needs.{needs}
+use Rattle.rounds.proofs.petrelknob_rounds_arrival.Statement.{statement}
+use Rattle.rounds.proofs.petrelknob_rounds_arrival.Tie as tie
+
+abbrev Inv-loop : tie.InvT-loop
+Inv-loop opening tx rx rounds end₀ message sum₀ i₀ end sum i = (i ≤ rounds) × (rounds < 4294967296)
+
+abbrev μ-loop : tie.MeasureT-loop
+μ-loop opening tx rx rounds end₀ message sum₀ i₀ end sum i = rounds - i
+
+opened-requires : tie.Need-opened-requires Inv-loop μ-loop
+opened-requires c κs = search needs
+
+bound-requires : tie.Need-bound-requires Inv-loop μ-loop
+bound-requires c κs = search needs
+
+loop-holds : tie.Need-loop-holds Inv-loop μ-loop
+loop-holds c = search needs
+
+slice-aggregate-arrival : tie.Need-slice-aggregate-arrival Inv-loop μ-loop
+slice-aggregate-arrival c = search needs
+
+arrival-requires : tie.Need-arrival-requires Inv-loop μ-loop
+arrival-requires c κs = search needs
+
+done-requires : tie.Need-done-requires Inv-loop μ-loop
+done-requires c κs = search needs
+
+added-requires : tie.Need-added-requires Inv-loop μ-loop
+added-requires c κs = search needs
+
+added-requires-2 : tie.Need-added-requires-2 Inv-loop μ-loop
+added-requires-2 c κs = search needs
+
+add-i : tie.Need-add-i Inv-loop μ-loop
+add-i c = search needs
+
+loop-less : tie.Need-loop-less Inv-loop μ-loop
+loop-less c = search needs
+
+loop-again : tie.Need-loop-again Inv-loop μ-loop
+loop-again c = search needs
+
+same-length : tie.Need-same-length Inv-loop μ-loop
+same-length c = search needs
+
+returns : tie.Need-returns Inv-loop μ-loop
+returns c = search needs
+
+pub petrelknob-rounds-arrival-spec : {M : Type 1} → statement M
+petrelknob-rounds-arrival-spec =
+    tie.close
+    (tie.spec
+    Inv-loop
+    μ-loop
+    opened-requires
+    bound-requires
+    loop-holds
+    slice-aggregate-arrival
+    arrival-requires
+    done-requires
+    added-requires
+    added-requires-2
+    add-i
+    loop-less
+    loop-again
+    same-length
+    returns)

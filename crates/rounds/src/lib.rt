@@ -1,0 +1,157 @@
+// Rounds of an end's calls, for a C program to time: each function opens an end, makes the same calls again and again, and answers a
+// checksum of what they answered. bench/calls.c makes the same rounds with an end in plain C, and compares.
+use icbmsg::Bounds;
+use icbmsg::Opening;
+use link::Answer;
+use link::End;
+
+// An answer as a number.
+fn number_of(a: Answer) -> u32 {
+    match a {
+        Answer::Accepted => 1,
+        Answer::Run { start, count } => start % 1024 + count % 1024 * 1024,
+        Answer::Control {
+            kind,
+            address,
+            block,
+        } => kind as u32 * 65536 + address as u32 * 256 + block as u32,
+        Answer::Delivered {
+            address,
+            block,
+            length,
+        } => address as u32 * 256 + block as u32 + length % 65536 * 65536,
+        Answer::Refused(x) => std::num::wrapping_add_u32(1_000_000, x.number()),
+    }
+}
+
+fn added(sum: u32, a: Answer) -> u32 {
+    std::num::wrapping_add_u32(sum, number_of(a))
+}
+
+// Where a reservation starts. Of another answer, a start that no table has.
+fn start_of(a: Answer) -> u32 {
+    match a {
+        Answer::Run { start, count: _ } => start,
+        _ => 256,
+    }
+}
+
+// A fresh end: the alignment, then begin, end and block count of the transmit region and of the receive region.
+fn opened(numbers: &[u32; 7]) -> End {
+    let tx = Bounds {
+        begin: numbers[1],
+        end: numbers[2],
+        blocks: numbers[3],
+    };
+    let rx = Bounds {
+        begin: numbers[4],
+        end: numbers[5],
+        blocks: numbers[6],
+    };
+    let called = End::open(Opening {
+        align: numbers[0],
+        tx,
+        rx,
+    });
+    called.end
+}
+
+// The end with `taken` reservations of one block each.
+fn crowded(fresh: End, taken: u32) -> End {
+    let mut end = fresh;
+    let mut i: u32 = 0;
+    while i < taken {
+        let reserved = end.reserve(0);
+        end = reserved.end;
+        i += 1;
+    }
+    end
+}
+
+// An initiator's end with one endpoint, bound to address 0.
+fn bound(fresh: End, tx: &mut [u8], rx: &[u8]) -> End {
+    let name = *b"bench";
+    let registered = fresh.register(tx, &name);
+    let waiting = registered.end;
+    let message = [3u8, 0, 0];
+    let released = waiting.arrival(rx, &message);
+    released.end
+}
+
+// Reserves k bytes and drops them, behind `taken` blocks that stay reserved.
+#[no_mangle]
+pub extern "C" fn petrelknob_rounds_reserve(
+    opening: &[u32; 7],
+    taken: u32,
+    k: u32,
+    rounds: u32,
+) -> u32 {
+    let mut end = crowded(opened(opening), taken);
+    let mut sum: u32 = 0;
+    let mut i: u32 = 0;
+    while i < rounds {
+        let reserved = end.reserve(k);
+        let run = reserved.answer;
+        let between = reserved.end;
+        let dropped = between.drop(start_of(run));
+        let gone = dropped.answer;
+        end = dropped.end;
+        sum = added(added(sum, run), gone);
+        i += 1;
+    }
+    sum
+}
+
+// Reserves k bytes, sends them to the bound endpoint, and has the partner release them.
+#[no_mangle]
+pub extern "C" fn petrelknob_rounds_send(
+    opening: &[u32; 7],
+    tx: &mut [u8],
+    rx: &[u8],
+    k: u32,
+    rounds: u32,
+) -> u32 {
+    let mut end = bound(opened(opening), tx, rx);
+    let message = [1u8, 0, 0];
+    let mut sum: u32 = 0;
+    let mut i: u32 = 0;
+    while i < rounds {
+        let reserved = end.reserve(k);
+        let run = reserved.answer;
+        let between = reserved.end;
+        let sent = between.send(tx, start_of(run), 0, k);
+        let order = sent.answer;
+        let away = sent.end;
+        let released = away.arrival(rx, &message);
+        let freed = released.answer;
+        end = released.end;
+        sum = added(added(added(sum, run), order), freed);
+        i += 1;
+    }
+    sum
+}
+
+// Takes the data message in receive block 0 for the bound endpoint, and ends its reading.
+#[no_mangle]
+pub extern "C" fn petrelknob_rounds_arrival(
+    opening: &[u32; 7],
+    tx: &mut [u8],
+    rx: &[u8],
+    rounds: u32,
+) -> u32 {
+    let mut end = bound(opened(opening), tx, rx);
+    let message = [0u8, 0, 0];
+    let mut sum: u32 = 0;
+    let mut i: u32 = 0;
+    while i < rounds {
+        let arrived = end.arrival(rx, &message);
+        let delivered = arrived.answer;
+        let reading = arrived.end;
+        let done = reading.done(0);
+        let order = done.answer;
+        end = done.end;
+        sum = added(added(sum, delivered), order);
+        i += 1;
+    }
+    sum
+}
