@@ -1,6 +1,6 @@
 // The table of a region's blocks: one entry for each of at most 256 blocks, the same for both directions.
 ghost use mathlib.Core.Path.{_≡_};
-ghost use Prim.Native.Nat.{_+_, _≤_, _<_};
+ghost use Prim.Native.Nat.{_+_, _≤_};
 ghost use Rattle.blocks.specs.declared.Use.the-variants.{Free};
 ghost use Rattle.blocks.specs.Tables.{useNumber, isUse, lies as liesRule, startsEntry, starts as startsRule, startsData, IsRun, holdsLength, allFree, fill as fillRule, freed, taken, blocksFor, freeRun, searchOf, FoundBelow};
 
@@ -35,7 +35,8 @@ pub enum RunAt {
     Live(Entry),
 }
 
-const FREE: Entry = Entry {
+// The entry of a free block.
+pub const FREE: Entry = Entry {
     usage: Use::Free,
     address: 0,
     count: 0,

@@ -55,6 +55,21 @@ pub enum Addressee {
     Bound(u8),
 }
 
+// A place that no endpoint has, and one that no binding has.
+pub const NO_ENDPOINT: Endpoint = Endpoint {
+    stage: Stage::Unused,
+    address: 0,
+    name: [0; 32],
+};
+
+pub const NO_BINDING: Binding = Binding {
+    stored: false,
+    address: 0,
+    start: 0,
+    count: 0,
+    name: [0; 32],
+};
+
 // The number of places for endpoints, and of places for bindings.
 const PLACES: usize = 8;
 

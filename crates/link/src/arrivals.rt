@@ -1,7 +1,7 @@
 // Arriving control messages (01, "Arriving control messages" and "Binding").
 ghost use mathlib.Core.Bool.{true};
 ghost use mathlib.Core.Path.{_≡_};
-ghost use Prim.Native.Nat.{_+_, _≤_, _<_};
+ghost use Prim.Native.Nat.{_+_, _≤_};
 ghost use lib.ListN.{length};
 ghost use Rattle.wire.specs.Bytes.{straight, bytes};
 ghost use Rattle.wire.specs.Reads.{answer};

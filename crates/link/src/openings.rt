@@ -9,38 +9,12 @@ ghost use Rattle.icbmsg.specs.Opening.{opening, region as regionRule, fresh as 
 use crate::Answer;
 use crate::Called;
 use crate::End;
-use blocks::Entry;
-use blocks::Use;
-use endpoints::Binding;
-use endpoints::Endpoint;
-use endpoints::Stage;
 use icbmsg::Bounds;
 use icbmsg::Opening;
 use icbmsg::Region;
 use refusal::Refusal;
 use region::LayoutAnswer;
 use region::RegionLayout;
-
-const FREE: Entry = Entry {
-    usage: Use::Free,
-    address: 0,
-    count: 0,
-    length: 0,
-};
-
-const NO_ENDPOINT: Endpoint = Endpoint {
-    stage: Stage::Unused,
-    address: 0,
-    name: [0; 32],
-};
-
-const NO_BINDING: Binding = Binding {
-    stored: false,
-    address: 0,
-    start: 0,
-    count: 0,
-    name: [0; 32],
-};
 
 const NO_REGION: Region = Region {
     bytes: 0,
@@ -78,10 +52,10 @@ impl End {
             rx,
             write: 0,
             read: 0,
-            sent: [FREE; End::BLOCKS],
-            held: [FREE; End::BLOCKS],
-            endpoints: [NO_ENDPOINT; End::ENDPOINTS],
-            bindings: [NO_BINDING; End::BINDINGS],
+            sent: [blocks::FREE; End::BLOCKS],
+            held: [blocks::FREE; End::BLOCKS],
+            endpoints: [endpoints::NO_ENDPOINT; End::ENDPOINTS],
+            bindings: [endpoints::NO_BINDING; End::BINDINGS],
         }
     }
 

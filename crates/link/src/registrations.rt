@@ -1,10 +1,9 @@
 // Registering an endpoint (01, "Binding").
 ghost use mathlib.Core.Bool.{true};
-ghost use mathlib.Core.List.{[], _∷_, _++_};
 ghost use mathlib.Core.Path.{_≡_};
-ghost use Prim.Native.Nat.{_+_, _≤_, _<_};
+ghost use Prim.Native.Nat.{_<_};
 ghost use lib.ListN.{length};
-ghost use Rattle.wire.specs.Bytes.{littleEndian, straight, writes, wrote};
+ghost use Rattle.wire.specs.Bytes.{wrote};
 ghost use Rattle.endpoints.specs.Endpoints.{goodName, holds, bindingAt};
 ghost use Rattle.icbmsg.specs.Outcome.{withoutWrites};
 ghost use Rattle.link.specs.Answers.{outcomeOf, endOf};
@@ -15,20 +14,11 @@ use crate::Called;
 use crate::End;
 use blocks::Found;
 use blocks::Use;
-use endpoints::Binding;
 use endpoints::BindingTest;
 use endpoints::Endpoint;
 use endpoints::EndpointTest;
 use endpoints::Stage;
 use refusal::Refusal;
-
-const NO_BINDING: Binding = Binding {
-    stored: false,
-    address: 0,
-    start: 0,
-    count: 0,
-    name: [0; 32],
-};
 
 impl End {
     // Sends a binding for the endpoint at place i, which then waits.
@@ -107,7 +97,7 @@ impl End {
                     address: b.address,
                     name: kept,
                 };
-                self.bindings[j] = NO_BINDING;
+                self.bindings[j] = endpoints::NO_BINDING;
                 Called {
                     answer: Answer::Control {
                         kind: 3,

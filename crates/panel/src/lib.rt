@@ -1,6 +1,5 @@
 // The interface for C: layout, push and pull on plain numbers and slices. include/petrelknob.h declares it.
 ghost use mathlib.Core.Path.{_≡_};
-ghost use Prim.Native.Nat.{_-_};
 ghost use lib.ListN.{length};
 ghost use Rattle.wire.specs.Bytes.{wrote};
 ghost use Rattle.region.specs.Layout.{layout};
