@@ -44,9 +44,12 @@ target/bench/ring: bench/ring.c bench/plain_ring.c bench/plain_ring.h include/pe
 	@mkdir -p $(@D)
 	gcc $(CFLAGS) -Ibench -o $@ bench/ring.c bench/plain_ring.c $(library)
 
-target/bench/calls: bench/calls.c bench/plain_end.c bench/plain_end.h bench/rounds.h $(rounds)
+target/bench/%.o: bench/%.c bench/plain_end.h bench/rounds.h
 	@mkdir -p $(@D)
-	gcc $(CFLAGS) -Ibench -o $@ bench/calls.c bench/plain_end.c $(rounds)
+	gcc $(CFLAGS) -Ibench -c -o $@ $<
+
+target/bench/calls: target/bench/calls.o target/bench/plain_end.o $(rounds)
+	gcc $(CFLAGS) -o $@ $^
 
 second: $(library)
 	cargo build --release --offline --quiet --manifest-path second/Cargo.toml --target-dir target/second
