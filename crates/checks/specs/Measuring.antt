@@ -1,10 +1,12 @@
 -- What the code's measure of an arriving message answers.
 use Prim.Native.Nat.{ℕ, _+_, _*_, _≤_}
 use mathlib.Core.Path.{_≡_}
-use mathlib.Core.List.{List}
-use lib.Dec.{ltb}
+use mathlib.Core.Bool.{Bool}
+use mathlib.Core.List.{List, [], _∷_}
+use lib.Dec.{leb, ltb}
 use Rattle.wire.specs.Choice.{check}
 use Rattle.refusal.specs.Numbers.{numberOf}
+use Rattle.blocks.specs.Search.{all}
 use Rattle.blocks.specs.Tables.{blocksFor}
 use Rattle.blocks.specs.declared.Entry.{Entry}
 use Rattle.icbmsg.specs.Arrivals.{fitsArea, areFree}
@@ -12,9 +14,13 @@ use Rattle.icbmsg.specs.declared.Region.{Region}
 use Rattle.checks.specs.declared.Measured.{Measured}
 use Rattle.checks.specs.declared.Measured.the-variants.{Refused, Fits}
 
--- 16, 17, 18, for K bytes in block b of a region whose table is t
-abbrev pub placeNumber : Region → List Entry → ℕ → ℕ → ℕ
-placeNumber g t b k = check (ltb b (g .count)) 16 (check (fitsArea g b k) 17 (check (areFree t g b k) 18 0))
+-- the region's blocks, at most 256 and of 4 bytes at least, lie in the n bytes that are lent
+abbrev pub areLent : ℕ → Region → Bool
+areLent n g = all (leb 4 (g .size) ∷ leb (g .count) 256 ∷ leb (g .blocks + g .count * g .size) n ∷ leb n 1048576 ∷ [])
+
+-- 6, 16, 17, 18, for K bytes in block b of a region whose table is t
+abbrev pub placeNumber : ℕ → Region → List Entry → ℕ → ℕ → ℕ
+placeNumber n g t b k = check (areLent n g) 6 (check (ltb b (g .count)) 16 (check (fitsArea g b k) 17 (check (areFree t g b k) 18 0)))
 
 abbrev pub measuredNumber : Measured → ℕ
 measuredNumber (Refused x) = numberOf x
@@ -24,10 +30,3 @@ measuredNumber (Fits k n) = 0
 abbrev pub MeasuredAs : Measured → Region → ℕ → ℕ → Type 0
 MeasuredAs (Refused x) g b k = Unit {0}
 MeasuredAs (Fits m n) g b k = (m ≡ k) × (n ≡ blocksFor (g .size) k) × (1 ≤ n) × (b + n ≤ g .count) × (k + 4 ≤ n * g .size)
-
--- n bytes are lent of a region, and its blocks lie in them
-pub record Lent (n : ℕ) (g : Region) : Type 0 where
-  pub size : 4 ≤ g .size
-  pub few : g .count ≤ 256
-  pub blocks : g .blocks + g .count * g .size ≤ n
-  pub bytes : n ≤ 1048576

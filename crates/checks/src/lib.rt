@@ -4,7 +4,7 @@ ghost use lib.ListN.{length};
 ghost use Rattle.blocks.specs.Search.{all};
 ghost use Rattle.icbmsg.specs.Ends.{soundRegion, openNumbers};
 ghost use Rattle.icbmsg.specs.Arrivals.{decode as decodeRule, sizeAt};
-ghost use Rattle.checks.specs.Measuring.{placeNumber, measuredNumber, MeasuredAs, Lent};
+ghost use Rattle.checks.specs.Measuring.{areLent, placeNumber, measuredNumber, MeasuredAs};
 use blocks::Entry;
 use icbmsg::Control;
 use icbmsg::Region;
@@ -69,12 +69,24 @@ pub fn decode(message: &[u8]) -> Control
     }
 }
 
-// Measures the message in receive block b: checks 16, 17 and 18. Its size is read here, and nowhere again.
+// Whether the region's blocks, at most 256 and of 4 bytes at least, lie in n bytes.
+fn are_lent(n: usize, g: Region) -> bool
+    ensures { λ r. ⌜ r ≡ areLent n g ⌝ }
+{
+    let size = g.size as usize;
+    let count = g.count as usize;
+    let blocks = g.blocks as usize;
+    (4 <= size) & ((count <= 256) & ((blocks + count * size <= n) & (n <= 1048576)))
+}
+
+// Measures the message in receive block b: checks 6, 16, 17 and 18. Its size is read here, and nowhere again.
 pub fn measure(rx: &[u8], g: Region, held: [Entry; 256], b: u8) -> Measured
-    requires { ⌜ Lent (length (now rx)) g ⌝ }
-    ensures number { λ r. ⌜ measuredNumber r ≡ placeNumber g held b (sizeAt g b (now (rx .entry))) ⌝ }
+    ensures number { λ r. ⌜ measuredNumber r ≡ placeNumber (length (now (rx .entry))) g held b (sizeAt g b (now (rx .entry))) ⌝ }
     ensures size { λ r. ⌜ MeasuredAs r g b (sizeAt g b (now (rx .entry))) ⌝ }
 {
+    if !are_lent(rx.len(), g) {
+        return Measured::Refused(Refusal::WrongRegion);
+    }
     let s = b as usize;
     let count = g.count as usize;
     let size = g.size as usize;

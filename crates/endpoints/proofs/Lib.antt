@@ -1,5 +1,3 @@
-pub mod Names
-pub mod Padding
+pub mod GoodNames
 pub mod Tests
 pub mod Unused
-pub mod BindingMessage

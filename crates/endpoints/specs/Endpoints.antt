@@ -2,13 +2,14 @@
 use Prim.Native.Nat.{ℕ, zero, suc}
 use mathlib.Core.Bool.{Bool, true, false, not, _&&_, _||_}
 use mathlib.Core.Path.{_≡_}
-use mathlib.Core.List.{List, _∷_, [], _++_}
+use mathlib.Core.List.{List, _∷_, []}
 use lib.Dec.{leb, eqb}
-use lib.ListN.{length, take, replicate, getD, set}
+use lib.ListN.{length, replicate, getD, set}
 use Rattle.wire.specs.Choice.{pick}
 use Rattle.wire.specs.Bytes.{same}
 use Rattle.blocks.specs.Search.{all, Search, nowhere, foundAt, isFound, firstFrom, any}
 use Rattle.blocks.specs.Tables.{lies}
+use Rattle.blocks.specs.Names.{paddedName}
 use Rattle.endpoints.specs.declared.Stage.{Stage}
 use Rattle.endpoints.specs.declared.Stage.the-variants.{Unused, Waiting, Bound}
 use Rattle.endpoints.specs.declared.Endpoint.{Endpoint}
@@ -19,10 +20,6 @@ use Rattle.endpoints.specs.declared.EndpointTest.{EndpointTest}
 use Rattle.endpoints.specs.declared.EndpointTest.the-variants.{BoundAt, WaitingAt, Uses, Registered, WaitingFor, Clashes}
 use Rattle.endpoints.specs.declared.BindingTest.{BindingTest}
 use Rattle.endpoints.specs.declared.BindingTest.the-variants.{Free, Holds}
-
--- a name as it is kept: 32 bytes, zeros behind it
-abbrev pub paddedName : List ℕ → List ℕ
-paddedName n = take 32 (n ++ replicate 32 0)
 
 abbrev pub noEndpoint : Endpoint
 noEndpoint = record { stage = Unused; address = 0; name = replicate 32 0 }

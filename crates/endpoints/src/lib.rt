@@ -1,12 +1,8 @@
 // Endpoints and stored bindings, by name and address: eight of each, searched from the lowest place.
-ghost use mathlib.Core.List.{[], _∷_, _++_};
 ghost use mathlib.Core.Path.{_≡_};
-ghost use Prim.Native.Nat.{_+_, _≤_};
-ghost use lib.ListN.{length};
-ghost use Rattle.wire.specs.Bytes.{littleEndian, straight, bytes, writes, wrote};
+ghost use Rattle.wire.specs.Bytes.{bytes};
 ghost use Rattle.blocks.specs.Tables.{searchOf, FoundBelow};
-ghost use Rattle.endpoints.specs.Endpoints.{paddedName, isUnused, isWaiting, isBound, endpointTest, bindingTest, waitingAt, boundNow, IsAddressee, endpointAt, bindingAt, someEndpoint, someBinding, unusedFrom, goodName};
-ghost use Rattle.endpoints.specs.Names.{nameIn, nameOf};
+ghost use Rattle.endpoints.specs.Endpoints.{isUnused, isWaiting, isBound, endpointTest, bindingTest, waitingAt, boundNow, IsAddressee, endpointAt, bindingAt, someEndpoint, someBinding, unusedFrom, goodName};
 use blocks::Found;
 
 pub enum Stage {
@@ -94,43 +90,6 @@ pub fn is_good_name(name: &[u8]) -> bool
         i += 1;
     }
     true
-}
-
-// The n bytes at p as a name is kept: 32 bytes, zeros behind it.
-pub fn padded(s: &[u8], p: usize, n: usize) -> [u8; 32]
-    requires { ⌜ (p + n ≤ length (now s)) × (n ≤ 32) ⌝ }
-    ensures { λ r. ⌜ r ≡ paddedName (bytes (now (s .entry)) (straight p) n) ⌝ }
-{
-    let mut name = [0u8; 32];
-    wire::copy(&mut name, 0, s, p, n);
-    name
-}
-
-// The length of the name at p: as far as its first zero byte, of at most n bytes.
-pub fn name_length(s: &[u8], p: usize, n: usize) -> Found
-    requires { ⌜ p + n ≤ length (now s) ⌝ }
-    ensures { λ r. ⌜ (nameOf r (now (s .entry)) p ≡ nameIn n p (now (s .entry))) × FoundBelow r 1 n ⌝ }
-{
-    let mut i = 0;
-    while i < n {
-        if s[p + i] == 0 {
-            return Found::At(i);
-        }
-        i += 1;
-    }
-    Found::Nowhere
-}
-
-// Writes a binding message at p: the length of name and zero, the name, and the zero.
-pub fn write_binding(tx: &mut [u8], p: usize, name: &[u8])
-    requires { ⌜ (length (now name) ≤ 31) × (p + length (now name) + 5 ≤ length (now tx)) ⌝ }
-    ensures { λ _. ⌜ now (tx .exit) ≡ wrote (now (tx .entry)) (writes (straight p) (littleEndian 4 (length (now (name .entry)) + 1) ++ now (name .entry) ++ (0 ∷ []))) ⌝ }
-{
-    let n = name.len();
-    wire::write_u32(tx, p, n as u32 + 1);
-    wire::copy(tx, p + 4, name, 0, n);
-    let zero = [0u8; 1];
-    wire::copy(tx, p + 4 + n, &zero, 0, 1);
 }
 
 // ---- endpoints

@@ -10,7 +10,7 @@ use Rattle.wire.specs.Reads.{gives, answer}
 use Rattle.icbmsg.specs.Outcome.{Outcome, refused, accepted, Rule, check}
 use Rattle.blocks.specs.Tables.{blocksFor, taken}
 use Rattle.endpoints.specs.Endpoints.{someEndpoint, boundAt}
-use Rattle.endpoints.specs.Names.{Name, endless, name, longer, nameIn}
+use Rattle.blocks.specs.Names.{Name, endless, name, longer, nameIn}
 use Rattle.icbmsg.specs.Ends.{withHeld}
 use Rattle.icbmsg.specs.Arrivals.{boundRule, boundSized, boundNamed, upToZero, fitsArea, areFree, dataRule}
 use Rattle.icbmsg.specs.Reading.{sizeIn, contentAt}

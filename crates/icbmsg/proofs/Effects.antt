@@ -20,7 +20,7 @@ use Rattle.icbmsg.specs.Outcome.{refusedWith, ringRefused, Outcome, refu
 use Rattle.blocks.specs.Search.{Search, nowhere, foundAt}
 use Rattle.blocks.specs.Tables.{entry, lies, starts, startsData, allFree, freed, taken, runEntry, blocksFor, freeRun}
 use Rattle.icbmsg.specs.Ends.{blockAt, soundEnd, isOpen, changed, withWrite, withRead, foundOr, whole}
-use Rattle.endpoints.specs.Endpoints.{endpointAt, bindingAt, someEndpoint, someBinding, paddedName, noBinding, at, isUnused, boundAt, registered, waitingFor, holds, clashes, clashesStored, unusedFrom, goodName, waitingAt, boundNow}
+use Rattle.endpoints.specs.Endpoints.{endpointAt, bindingAt, someEndpoint, someBinding, noBinding, at, isUnused, boundAt, registered, waitingFor, holds, clashes, clashesStored, unusedFrom, goodName, waitingAt, boundNow}
 use Rattle.icbmsg.specs.Rings.{ringOf, pushOutcome, pullOutcome, pushOf, startOf, pullRule}
 use Rattle.icbmsg.specs.Messages.{reserveOf, roomOf, sendOf, dropOf, viewOf, doneOf, roomQuestion, viewQuestion}
 use Rattle.icbmsg.specs.Registering.{become, followed, initiates, registerOf}
@@ -37,7 +37,7 @@ use Rattle.blocks.proofs.Search.{first-at, lowest-at}
 use Rattle.blocks.proofs.Tables.{run-of, live, data-run, Each, every}
 use Rattle.icbmsg.proofs.RulesRead.{pull-answer}
 use Rattle.icbmsg.proofs.ArrivingBytes.{withName, bound-flat, data-flat}
-use Rattle.endpoints.specs.Names.{Name, endless, name, nameIn}
+use Rattle.blocks.specs.Names.{Name, endless, name, nameIn, paddedName}
 use Rattle.blocks.specs.declared.Use.{Use}
 use Rattle.blocks.specs.declared.Use.the-variants.{Reserved, SentData, SentBinding, ReceivedData, StoredBinding}
 use Rattle.blocks.specs.declared.Entry.{Entry}

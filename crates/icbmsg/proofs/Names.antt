@@ -18,7 +18,7 @@ use Rattle.icmsg.specs.Rules.{Outcome as RingOutcome, Answer, refused as ringNo
 use Rattle.icbmsg.specs.Outcome.{Outcome, ringRefused, check, guard}
 use Rattle.blocks.specs.Search.{Search, nowhere, foundAt, isFound, firstFrom}
 use Rattle.blocks.specs.Tables.{entry, isUse, inUse, lies, starts, startsData, freeEntry, runEntry, freed, taken, blocksFor, freeRun}
-use Rattle.endpoints.specs.Endpoints.{uses, paddedName, noEndpoint, noBinding, at, isUnused, isWaiting, isBound, boundAt, registered, waitingFor, holds, clashes, clashesStored, endpointAt, bindingAt, someEndpoint, someBinding, unusedFrom, goodName, waitingAt, boundNow}
+use Rattle.endpoints.specs.Endpoints.{uses, noEndpoint, noBinding, at, isUnused, isWaiting, isBound, boundAt, registered, waitingFor, holds, clashes, clashesStored, endpointAt, bindingAt, someEndpoint, someBinding, unusedFrom, goodName, waitingAt, boundNow}
 use Rattle.icbmsg.specs.Ends.{isOpen, whole, foundOr, changed}
 use Rattle.icbmsg.specs.Opening.{Opened}
 use Rattle.icbmsg.specs.declared.Opening.{Opening}
@@ -37,7 +37,7 @@ use Rattle.icbmsg.specs.Names.{endpointOf, isUsed, IsAnnounced, Once, Wa
 use Rattle.blocks.proofs.LeastBlocks.{blocks-least, blocks-one}
 use Rattle.blocks.proofs.Tables.{every, use-is, Taken, its-first, its-later, apart, Freed, gone, freed-live, freed-view, taken-view, free-law}
 use Rattle.icbmsg.proofs.ArrivingBytes.{withName, bound-flat, data-flat}
-use Rattle.endpoints.specs.Names.{Name, endless, name, nameIn}
+use Rattle.blocks.specs.Names.{Name, endless, name, nameIn, paddedName}
 use Rattle.icbmsg.proofs.RulesRead.{pull-answer}
 use Rattle.blocks.proofs.Search.{first-at, lowest-at}
 use Rattle.icbmsg.proofs.Effects.{sound, whole-open}

@@ -13,7 +13,8 @@ use Rattle.wire.specs.Bytes.{same}
 use Rattle.icbmsg.specs.Outcome.{Outcome, refusedWith, accepted, check}
 use Rattle.blocks.specs.Search.{all, Search, nowhere, foundAt}
 use Rattle.blocks.specs.Tables.{entry, isUse, lies, starts, startsData, allFree, taken, freeRun, inUse}
-use Rattle.endpoints.specs.Endpoints.{paddedName, holds}
+use Rattle.endpoints.specs.Endpoints.{holds}
+use Rattle.blocks.specs.Names.{paddedName}
 use Rattle.icbmsg.specs.Ends.{soundEnd, isOpen, changed, withWrite, withRead, withSent, foundOr}
 use Rattle.icbmsg.specs.Opening.{opening}
 use Rattle.icbmsg.specs.Messages.{reserveOf}

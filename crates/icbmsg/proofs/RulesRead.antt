@@ -14,7 +14,8 @@ use Rattle.icmsg.proofs.PullReads.{pull-reads-what-01-lists}
 use Rattle.icbmsg.specs.Outcome.{Outcome, ringRefused, Rule, check, guard}
 use Rattle.blocks.specs.Search.{Search, nowhere, foundAt}
 use Rattle.blocks.specs.Tables.{blocksFor}
-use Rattle.endpoints.specs.Endpoints.{endpointAt, bindingAt, someEndpoint, someBinding, clashes, clashesStored, waitingFor, boundAt, paddedName}
+use Rattle.endpoints.specs.Endpoints.{endpointAt, bindingAt, someEndpoint, someBinding, clashes, clashesStored, waitingFor, boundAt}
+use Rattle.blocks.specs.Names.{paddedName}
 use Rattle.icbmsg.specs.Ends.{whole, foundOr}
 use Rattle.icbmsg.specs.Rings.{ringOf, pullOutcome, pulled, pullRule}
 use Rattle.icbmsg.specs.Arrivals.{decode, headerAt, decodedRule, arrivalRule, boundRule, boundSized, boundNamed, upToZero, fitsArea, areFree, boundTo, bindingStored, dataRule}

@@ -31,7 +31,7 @@ use Rattle.icbmsg.specs.Theorems.{WritesInside}
 use Rattle.blocks.proofs.LeastBlocks.{blocks-hold}
 use Rattle.icbmsg.proofs.RulesRead.{pull-answer, answer-guard}
 use Rattle.icbmsg.proofs.ArrivingBytes.{withName, bound-flat, data-flat}
-use Rattle.endpoints.specs.Names.{Name, endless, name}
+use Rattle.blocks.specs.Names.{Name, endless, name}
 use Rattle.blocks.proofs.Tables.{run-of}
 use Rattle.icbmsg.proofs.Effects.{sound, in-blocks, whole-open, size-pos}
 use Rattle.blocks.proofs.Search.{lowest-at}

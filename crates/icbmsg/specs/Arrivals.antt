@@ -12,7 +12,8 @@ use Rattle.icbmsg.specs.Outcome.{Outcome, refused, accepted, Rule, check
 use Rattle.blocks.specs.Search.{Search, nowhere, foundAt}
 use Rattle.blocks.specs.Tables.{entry, starts, allFree, freed, taken, blocksFor}
 use Rattle.icbmsg.specs.Ends.{blockAt, whole, foundOr, changed, withSent, withHeld}
-use Rattle.endpoints.specs.Endpoints.{paddedName, at, boundAt, waitingFor, waitingAt, boundNow, clashes, clashesStored, endpointAt, bindingAt, someEndpoint, someBinding}
+use Rattle.endpoints.specs.Endpoints.{at, boundAt, waitingFor, waitingAt, boundNow, clashes, clashesStored, endpointAt, bindingAt, someEndpoint, someBinding}
+use Rattle.blocks.specs.Names.{paddedName}
 use Rattle.icbmsg.specs.Registering.{become}
 use Rattle.blocks.specs.declared.Use.the-variants.{SentData, SentBinding, ReceivedData, StoredBinding}
 use Rattle.endpoints.specs.declared.Stage.the-variants.{Bound}

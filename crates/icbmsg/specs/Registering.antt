@@ -10,7 +10,8 @@ use Rattle.icbmsg.specs.Outcome.{Outcome, accepted, written, check}
 use Rattle.blocks.specs.Search.{Search, nowhere, foundAt}
 use Rattle.blocks.specs.Tables.{freed, taken, blocksFor, freeRun}
 use Rattle.icbmsg.specs.Ends.{blockAt, whole, foundOr, changed}
-use Rattle.endpoints.specs.Endpoints.{paddedName, noBinding, isUnused, at, registered, holds, endpointAt, bindingAt, someEndpoint, unusedFrom, goodName}
+use Rattle.endpoints.specs.Endpoints.{noBinding, isUnused, at, registered, holds, endpointAt, bindingAt, someEndpoint, unusedFrom, goodName}
+use Rattle.blocks.specs.Names.{paddedName}
 use Rattle.blocks.specs.declared.Use.the-variants.{SentBinding}
 use Rattle.endpoints.specs.declared.Stage.{Stage}
 use Rattle.endpoints.specs.declared.Stage.the-variants.{Waiting, Bound}

@@ -9,7 +9,8 @@ use Rattle.wire.specs.Bytes.{same, Inside}
 use Rattle.icbmsg.specs.Outcome.{Outcome, refusedWith, refused, accepted}
 use Rattle.blocks.specs.Search.{foundAt}
 use Rattle.blocks.specs.Tables.{entry, starts, startsData, runEntry, taken, blocksFor, inUse}
-use Rattle.endpoints.specs.Endpoints.{bindingAt, at, isUnused, someEndpoint, uses, unusedFrom, paddedName, holds}
+use Rattle.endpoints.specs.Endpoints.{bindingAt, at, isUnused, someEndpoint, uses, unusedFrom, holds}
+use Rattle.blocks.specs.Names.{paddedName}
 use Rattle.icbmsg.specs.Ends.{isOpen, withSent}
 use Rattle.icbmsg.specs.Opening.{opening}
 use Rattle.icbmsg.specs.declared.Opening.{Opening}

@@ -17,14 +17,14 @@ use Rattle.blocks.specs.Search.{nowhere, foundAt}
 use Rattle.blocks.specs.Tables.{entry, starts, freed, taken, blocksFor}
 use Rattle.blocks.specs.declared.Use.the-variants.{SentData, SentBinding, ReceivedData, StoredBinding}
 use Rattle.blocks.specs.declared.Entry.{Entry}
-use Rattle.endpoints.specs.Endpoints.{paddedName, boundAt, waitingAt, waitingFor, clashes, clashesStored, boundNow, endpointAt, bindingAt, someEndpoint, someBinding}
-use Rattle.endpoints.specs.Names.{Name, endless, name, nameIn}
+use Rattle.endpoints.specs.Endpoints.{boundAt, waitingAt, waitingFor, clashes, clashesStored, boundNow, endpointAt, bindingAt, someEndpoint, someBinding}
+use Rattle.blocks.specs.Names.{Name, endless, name, nameIn, paddedName}
 use Rattle.endpoints.specs.declared.Endpoint.{Endpoint}
 use Rattle.endpoints.specs.declared.Stage.the-variants.{Bound}
 use Rattle.icbmsg.specs.Outcome.{Outcome, refused, accepted, check}
 use Rattle.icbmsg.specs.Ends.{isOpen, whole, changed, withSent, withHeld}
 use Rattle.icbmsg.specs.Arrivals.{decode, fitsArea, areFree, sizeAt, dataRule, releaseOf, releasedBoundOf, storedAt, boundNamed, boundRule, decodedRule, arrivalRule}
-use Rattle.checks.specs.Measuring.{placeNumber, measuredNumber, MeasuredAs, Lent}
+use Rattle.checks.specs.Measuring.{placeNumber, measuredNumber, MeasuredAs, areLent}
 use Rattle.icbmsg.specs.Reading.{contentAt}
 use Rattle.link.proofs.OpenSays.{open-says}
 use Rattle.icbmsg.proofs.ArrivingBytes.{received, data-flat, withName, bound-flat}
@@ -36,11 +36,15 @@ use Rattle.icbmsg.specs.End.{End}
 
 -- ---- what the code measured
 
--- an open end's receive region, lent whole
-pub lent-whole : (e : End) (n : ℕ) → isOpen e ≡ true → n ≡ e .rx .bytes → Lent n (e .rx)
+-- check 6 of a measure passes: an open end's receive region is lent whole
+pub lent-whole : (e : End) (n : ℕ) → isOpen e ≡ true → n ≡ e .rx .bytes → areLent n (e .rx) ≡ true
 lent-whole e n h q =
     let o = open-says e h .rx in
-    record { size = o .size; few = o .few; blocks = omega (arith, o .blocks); bytes = omega (arith, o .bytes) }
+    let a = le-leb 4 (e .rx .size) (o .size) in
+    let b = le-leb (e .rx .count) 256 (o .few) in
+    let c = le-leb (e .rx .blocks + e .rx .count * e .rx .size) n (omega (arith, o .blocks)) in
+    let d = le-leb n 1048576 (omega (arith, o .bytes)) in
+    rw (a, b, c, d)
 
 three-checks : (a b c : Bool) (e : End) (o : Outcome) →
     check a 16 e (check b 17 e (check c 18 e o)) ≡ passed (numbered a 16 (numbered b 17 (numbered c 18 0))) o (refused e)
@@ -71,10 +75,10 @@ module _ (e : End) (a b : ℕ) (r : List ℕ) where
     data-15 i = sym (data-flat e a b r ∙ rw (le-leb a 0xFD h, i))
 
     module _ (i : someEndpoint (boundAt a) (e .endpoints) ≡ true) where
-      pub data-measured : answer (dataRule e a b) r ≡ passed (placeNumber (e .rx) (e .held) b (sizeAt (e .rx) b r)) (received e a b (sizeAt (e .rx) b r)) (refused e)
-      data-measured =
+      pub data-measured : (n : ℕ) → areLent n (e .rx) ≡ true → answer (dataRule e a b) r ≡ passed (placeNumber n (e .rx) (e .held) b (sizeAt (e .rx) b r)) (received e a b (sizeAt (e .rx) b r)) (refused e)
+      data-measured n l =
           let k : ℕ = sizeAt (e .rx) b r in
-          data-flat e a b r ∙ rw (le-leb a 0xFD h, i) (three-checks (ltb b (e .rx .count)) (fitsArea (e .rx) b k) (areFree (e .held) (e .rx) b k) e (received e a b k))
+          data-flat e a b r ∙ rw (le-leb a 0xFD h, i, l) (three-checks (ltb b (e .rx .count)) (fitsArea (e .rx) b k) (areFree (e .held) (e .rx) b k) e (received e a b k))
 
 pub received-now : (e : End) (o : Outcome) (a b k m c : ℕ) (t : List Entry) → o ≡ received e a b k → m ≡ k → c ≡ blocksFor (e .rx .size) k →
     t ≡ taken (e .held) ReceivedData b c a m → accepted (withHeld e t) (a ∷ b ∷ m ∷ []) ≡ o
@@ -173,13 +177,13 @@ module _ (e : End) (a b : ℕ) (r : List ℕ) where
     pub bound-14 : 0xFD < a → refused e 14 ≡ answer (boundRule e a b) r
     bound-14 h = sym (bound-flat e a b r ∙ rw (i, lt-leb a 0xFD h))
 
-    pub bound-measured : a ≤ 0xFD → let k : ℕ = sizeAt (e .rx) b r in answer (boundRule e a b) r
-        ≡ passed (placeNumber (e .rx) (e .held) b k) (withName e (boundNamed e a b (blocksFor (e .rx .size) k)) (nameIn (min k 32) (contentAt e b) r)) (refused e)
-    bound-measured h =
+    pub bound-measured : a ≤ 0xFD → (n : ℕ) → areLent n (e .rx) ≡ true → let k : ℕ = sizeAt (e .rx) b r in answer (boundRule e a b) r
+        ≡ passed (placeNumber n (e .rx) (e .held) b k) (withName e (boundNamed e a b (blocksFor (e .rx .size) k)) (nameIn (min k 32) (contentAt e b) r)) (refused e)
+    bound-measured h n l =
         let k : ℕ = sizeAt (e .rx) b r in
         let o : Outcome = withName e (boundNamed e a b (blocksFor (e .rx .size) k)) (nameIn (min k 32) (contentAt e b) r) in
         bound-flat e a b r ∙ ap (λ (x : Bool). check (not x) 19 e (check (leb a 0xFD) 14 e (check (ltb b (e .rx .count)) 16 e (check (fitsArea (e .rx) b k) 17 e (check (areFree (e .held) (e .rx) b k) 18 e o))))) i
-        ∙ rw (le-leb a 0xFD h) (three-checks (ltb b (e .rx .count)) (fitsArea (e .rx) b k) (areFree (e .held) (e .rx) b k) e o)
+        ∙ rw (le-leb a 0xFD h, l) (three-checks (ltb b (e .rx .count)) (fitsArea (e .rx) b k) (areFree (e .held) (e .rx) b k) e o)
 
   -- by the name that the code found
   pub name-endless : (f : List ℕ → Outcome) (m : Name) → m ≡ endless → withName e f m ≡ refused e 20

@@ -16,7 +16,8 @@ use Rattle.blocks.specs.declared.Entry.{Entry}
 use Rattle.blocks.proofs.Tables.{every}
 use Rattle.blocks.proofs.Search.{first-at}
 use Rattle.blocks.proofs.Loops.{in-list}
-use Rattle.endpoints.specs.Endpoints.{paddedName, noBinding, isUnused, at, registered, holds, endpointAt, bindingAt, someEndpoint, unusedFrom, goodName}
+use Rattle.endpoints.specs.Endpoints.{noBinding, isUnused, at, registered, holds, endpointAt, bindingAt, someEndpoint, unusedFrom, goodName}
+use Rattle.blocks.specs.Names.{paddedName}
 use Rattle.endpoints.specs.declared.Binding.{Binding}
 use Rattle.endpoints.specs.declared.Stage.the-variants.{Waiting, Bound}
 use Rattle.icbmsg.specs.Outcome.{Outcome, refused, accepted, withoutWrites}

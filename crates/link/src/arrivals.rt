@@ -106,7 +106,7 @@ impl End {
                 end: self,
             };
         }
-        let kept = endpoints::padded(rx, p, n);
+        let kept = blocks::framing::padded(rx, p, n);
         let a = address as u32;
         let endpoints = self.endpoints;
         let bindings = self.bindings;
@@ -194,7 +194,7 @@ impl End {
             },
             Measured::Fits { length, count } => {
                 let p = self.rx.blocks as usize + block as usize * self.rx.size as usize + 4;
-                match endpoints::name_length(rx, p, wire::least(length as usize, 32)) {
+                match blocks::framing::name_length(rx, p, wire::least(length as usize, 32)) {
                     Found::Nowhere => Called {
                         answer: Answer::Refused(Refusal::BadName),
                         end: self,

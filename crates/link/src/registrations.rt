@@ -44,14 +44,14 @@ impl End {
         };
         let endpoints = self.endpoints;
         let address = endpoints::unused_address(endpoints);
-        endpoints::write_binding(
+        blocks::framing::write_binding(
             tx,
             self.tx.blocks as usize + s * self.tx.size as usize,
             name,
         );
         let taken = blocks::take_run(sent, Use::SentBinding, s, n, address, k);
         self.sent = taken;
-        let kept = endpoints::padded(name, 0, name.len());
+        let kept = blocks::framing::padded(name, 0, name.len());
         self.endpoints[i] = Endpoint {
             stage: Stage::Waiting,
             address,
@@ -72,7 +72,7 @@ impl End {
         requires { ⌜ (isOpen (endOf self) ≡ true) × (goodName (now name) ≡ true) × (i < 8) ⌝ }
         ensures { λ r. ⌜ outcomeOf r ≡ followed (endOf self) (now (name .entry)) i (bindingAt (holds (self .rx .count) (now (name .entry))) (self .bindings)) ⌝ }
     {
-        let kept = endpoints::padded(name, 0, name.len());
+        let kept = blocks::framing::padded(name, 0, name.len());
         let count = self.rx.count;
         let bindings = self.bindings;
         match endpoints::find_binding(bindings, BindingTest::Holds, count, 0, &kept) {
@@ -128,7 +128,7 @@ impl End {
                 end: self,
             };
         }
-        let kept = endpoints::padded(name, 0, name.len());
+        let kept = blocks::framing::padded(name, 0, name.len());
         let endpoints = self.endpoints;
         if endpoints::has(endpoints, EndpointTest::Registered, 0, &kept) {
             return Called {

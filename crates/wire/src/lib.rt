@@ -2,9 +2,9 @@
 pub mod around;
 
 ghost use mathlib.Core.Path.{_≡_};
-ghost use Prim.Native.Nat.{_+_, _<_, _≤_, min};
+ghost use Prim.Native.Nat.{_+_, _*_, _<_, _≤_, min};
 ghost use lib.ListN.{length};
-ghost use Rattle.wire.specs.Bytes.{littleEndian, fromLittleEndian, straight, bytes, writes, wrote, same as sameBytes};
+ghost use Rattle.wire.specs.Bytes.{littleEndian, words, fromLittleEndian, straight, bytes, writes, wrote, same as sameBytes};
 
 // Copies n bytes one by one.
 fn copy_bytes(dst: &mut [u8], to: usize, src: &[u8], from: usize, n: usize)
@@ -100,4 +100,16 @@ pub fn write_u32(s: &mut [u8], p: usize, v: u32)
     s[p + 1] = (v / 256 % 256) as u8;
     s[p + 2] = (v / 65536 % 256) as u8;
     s[p + 3] = (v / 16777216 % 256) as u8;
+}
+
+// Puts numbers at p, four little-endian bytes each.
+pub fn write_numbers(s: &mut [u8], p: usize, numbers: &[u32])
+    requires { ⌜ p + 4 * length (now numbers) ≤ length (now s) ⌝ }
+    ensures { λ _. ⌜ now (s .exit) ≡ wrote (now (s .entry)) (writes (straight p) (words (now (numbers .entry)))) ⌝ }
+{
+    let mut i = 0;
+    while i < numbers.len() {
+        write_u32(s, p + 4 * i, numbers[i]);
+        i += 1;
+    }
 }

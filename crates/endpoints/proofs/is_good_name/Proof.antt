@@ -2,7 +2,7 @@ use Prim.Native.Nat.{_≤_, _-_}
 use mathlib.Core.Path.{_≡_}
 use native.Mathlib.Omega.{arith}
 use lib.ListN.{length}
-use Rattle.endpoints.proofs.Names.{NoneZero, none-yet, none-more, too-short, too-long, has-zero, is-good}
+use Rattle.endpoints.proofs.GoodNames.{NoneZero, none-yet, none-more, too-short, too-long, has-zero, is-good}
 use borrow.Author.Needs.{needs}
 use Rattle.endpoints.proofs.is_good_name.Statement.{statement}
 use Rattle.endpoints.proofs.is_good_name.Tie as tie

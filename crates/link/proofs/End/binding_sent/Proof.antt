@@ -1,3 +1,4 @@
+use mathlib.Core.Bool.{true}
 use Rattle.link.specs.Answers.{endOf}
 use Rattle.blocks.specs.declared.Found.{Found}
 use Prim.Native.Nat.{ℕ, _+_, _*_, _≤_, min}
@@ -8,14 +9,18 @@ use denote.Ref.{now}
 use Rattle.wire.specs.Bytes.{straight, bytes}
 use Rattle.blocks.specs.Tables.{blocksFor}
 use Rattle.blocks.proofs.Search.{at-below}
-use Rattle.endpoints.specs.Names.{nameOf, nameIn}
+use Rattle.blocks.specs.Names.{nameOf, nameIn}
 use Rattle.icbmsg.specs.Arrivals.{sizeAt, boundNamed}
+use Rattle.checks.specs.Measuring.{areLent}
 use Rattle.icbmsg.specs.Reading.{contentAt}
 use Rattle.link.proofs.OpenSays.{open-says, run-inside}
 use Rattle.link.proofs.ArrivalCalls.{lent-whole, measured-refused, measured-fits, measured-says, bound-19, bound-14, bound-measured, name-endless, name-found}
 use borrow.Author.Needs.{needs}
 use Rattle.link.proofs.End.binding_sent.Statement.{statement}
 use Rattle.link.proofs.End.binding_sent.Tie as tie
+
+lent : (c : tie.Start) → areLent (length (now (c .args .rx))) (c .args .self .rx) ≡ true
+lent c = lent-whole (endOf (c .args .self)) _ (c .pre .0) (c .pre .1)
 
 -- the message, measured: K, its blocks, and the bytes of them
 fits : (c : tie.After-length) → let a = c .before .before .before .before .before .before .before .args in let k = sizeAt (a .self .rx) (a .block) (now (a .rx)) in
@@ -43,9 +48,7 @@ returns-2 c =
     bound-14 (endOf (a .self)) (a .address) (a .block) (now (a .rx)) (c .before .if1 .left) (c .if2 .taken)
 
 measure-requires : tie.Need-measure-requires
-measure-requires c κs =
-    let k = c .before .before .before .before in
-    lent-whole (endOf (k .args .self)) _ (k .pre .0) (k .pre .1)
+measure-requires c κs = search needs
 
 enum-known-x : tie.Need-enum-known-x
 enum-known-x c = search needs
@@ -93,7 +96,7 @@ bind-requires c κs =
 returns-3 : tie.Need-returns-3
 returns-3 c =
     let a = c .before .before .before .before .before .before .before .before .args in
-    sym (bound-measured (endOf (a .self)) (a .address) (a .block) (now (a .rx)) (c .before .before .before .before .before .before .if1 .left) (c .before .before .before .before .before .if2 .left) ∙ measured-refused _ _ (c .before .before .before .measure .ensures .0) _ _ (endOf (a .self)) (c .before .x .given .1))
+    sym (bound-measured (endOf (a .self)) (a .address) (a .block) (now (a .rx)) (c .before .before .before .before .before .before .if1 .left) (c .before .before .before .before .before .if2 .left) _ (lent (c .before .before .before .before .before .before .before .before)) ∙ measured-refused _ _ (c .before .before .before .measure .ensures .0) _ _ (endOf (a .self)) (c .before .x .given .1))
 
 returns-4 : tie.Need-returns-4
 returns-4 c =
@@ -105,7 +108,7 @@ returns-4 c =
     let g = c .before .before .name-length .ensures .0 ∙ ap (λ (x : ℕ). nameIn x (contentAt (endOf (a .self)) (a .block)) s) m in
     let e = ap (λ (x : Found). nameOf x s (contentAt (endOf (a .self)) (a .block))) (c .enum-told .given .1) in
     sym (
-    bound-measured (endOf (a .self)) (a .address) (a .block) s (c .before .before .before .before .before .before .before .before .before .before .before .before .if1 .left) (c .before .before .before .before .before .before .before .before .before .before .before .if2 .left)
+    bound-measured (endOf (a .self)) (a .address) (a .block) s (c .before .before .before .before .before .before .before .before .before .before .before .before .if1 .left) (c .before .before .before .before .before .before .before .before .before .before .before .if2 .left) _ (lent (c .before .before .before .before .before .before .before .before .before .before .before .before .before .before))
     ∙ measured-fits _ _ (c .before .before .before .before .before .before .before .before .before .measure .ensures .0) _ _ _ (endOf (a .self)) (c .before .before .before .before .before .before .before .length .given .1)
     ∙ name-endless (endOf (a .self)) (a .address) (a .block) s (boundNamed (endOf (a .self)) (a .address) (a .block) (blocksFor (a .self .rx .size) k)) _ (sym g ∙ e)
     )
@@ -122,7 +125,7 @@ returns-5 c =
     c .bind .ensures
     ∙ ap (λ (x : ℕ). boundNamed (endOf (a .self)) (a .address) (a .block) x (bytes s (straight (contentAt (endOf (a .self)) (a .block))) (c .before .before .n .given .0 .0))) (q .1)
     ∙ sym (
-    bound-measured (endOf (a .self)) (a .address) (a .block) s (c .before .before .before .before .before .before .before .before .before .before .before .before .before .before .if1 .left) (c .before .before .before .before .before .before .before .before .before .before .before .before .before .if2 .left)
+    bound-measured (endOf (a .self)) (a .address) (a .block) s (c .before .before .before .before .before .before .before .before .before .before .before .before .before .before .if1 .left) (c .before .before .before .before .before .before .before .before .before .before .before .before .before .if2 .left) _ (lent (c .before .before .before .before .before .before .before .before .before .before .before .before .before .before .before .before))
     ∙ measured-fits _ _ (c .before .before .before .before .before .before .before .before .before .before .before .measure .ensures .0) _ _ _ (endOf (a .self)) (c .before .before .before .before .before .before .before .before .before .length .given .1)
     ∙ name-found (endOf (a .self)) (a .address) (a .block) s (boundNamed (endOf (a .self)) (a .address) (a .block) (blocksFor (a .self .rx .size) k)) _ _ (sym g ∙ e)
     )

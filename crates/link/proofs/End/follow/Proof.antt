@@ -9,7 +9,8 @@ use denote.Ref.{now}
 use Rattle.wire.proofs.Positions.{bytes-all}
 use Rattle.blocks.specs.Search.{foundAt}
 use Rattle.blocks.proofs.Search.{ends-nowhere, ends-at, at-below}
-use Rattle.endpoints.specs.Endpoints.{paddedName, holds, bindingAt, bindingTest, noBinding}
+use Rattle.endpoints.specs.Endpoints.{holds, bindingAt, bindingTest, noBinding}
+use Rattle.blocks.specs.Names.{paddedName}
 use Rattle.endpoints.specs.declared.BindingTest.the-variants.{Holds}
 use Rattle.endpoints.specs.declared.Binding.{Binding}
 use Rattle.icbmsg.specs.Ends.{changed}

@@ -8,7 +8,7 @@ use denote.Ref.{now}
 use Rattle.wire.proofs.Positions.{bytes-all}
 use Rattle.blocks.proofs.LeastBlocks.{blocks-one, blocks-hold}
 use Rattle.blocks.proofs.Search.{ends-nowhere, ends-at, at-below}
-use Rattle.endpoints.specs.Endpoints.{paddedName}
+use Rattle.blocks.specs.Names.{paddedName}
 use Rattle.icbmsg.specs.Ends.{changed}
 use Rattle.link.proofs.OpenSays.{Open, open-says, run-inside}
 use Rattle.link.proofs.MessageCalls.{quiet}

@@ -10,7 +10,8 @@ use denote.Ref.{now}
 use Rattle.wire.specs.Bytes.{wrote}
 use Rattle.wire.proofs.Positions.{bytes-all}
 use Rattle.blocks.proofs.Search.{ends-nowhere, ends-at, at-below}
-use Rattle.endpoints.specs.Endpoints.{paddedName, goodName, holds, bindingAt, registered, someEndpoint, endpointTest}
+use Rattle.endpoints.specs.Endpoints.{goodName, holds, bindingAt, registered, someEndpoint, endpointTest}
+use Rattle.blocks.specs.Names.{paddedName}
 use Rattle.endpoints.specs.declared.EndpointTest.the-variants.{Registered}
 use Rattle.icbmsg.specs.Outcome.{Outcome, withoutWrites}
 use Rattle.icbmsg.specs.Ends.{whole}
