@@ -1,0 +1,41 @@
+use borrow.Author.Needs.{needs}
+use Rattle.script.proofs.Memory.{length-first}
+use Rattle.script.proofs.calls.pull.Statement.{statement}
+use Rattle.script.proofs.calls.pull.Tie as tie
+
+least-requires : tie.Need-least-requires
+least-requires c κs = search needs
+
+slice-relend-prefix-pull : tie.Need-slice-relend-prefix-pull
+slice-relend-prefix-pull c = search needs
+
+slice-aggregate-pull : tie.Need-slice-aggregate-pull
+slice-aggregate-pull c = length-first _ _ (c .before .before .least .ensures .2)
+
+pull-requires : tie.Need-pull-requires
+pull-requires c κs = search needs
+
+of-ring-call-requires : tie.Need-of-ring-call-requires
+of-ring-call-requires c κs = search needs
+
+same-length : tie.Need-same-length
+same-length c = search needs
+
+same-length-2 : tie.Need-same-length-2
+same-length-2 c = search needs
+
+returns : tie.Need-returns
+returns c = search needs
+
+pub pull-spec : {M : Type 1} → statement M
+pull-spec =
+    tie.close
+    (tie.spec
+    least-requires
+    slice-relend-prefix-pull
+    slice-aggregate-pull
+    pull-requires
+    of-ring-call-requires
+    same-length
+    same-length-2
+    returns)

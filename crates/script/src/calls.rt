@@ -1,0 +1,191 @@
+// What a record does: a call on the end, or a write to the memory around it.
+ghost use mathlib.Core.Path.{_≡_};
+ghost use mathlib.Core.List.{[]};
+ghost use Prim.Native.Nat.{_+_, _≤_};
+ghost use lib.Dec.{eqb};
+ghost use lib.ListN.{length};
+ghost use Rattle.wire.specs.Choice.{pick};
+ghost use Rattle.icbmsg.specs.Ends.{blockAt};
+ghost use Rattle.icbmsg.specs.Messages.{roomOf, viewOf};
+ghost use Rattle.link.specs.Answers.{answerNumber, endOf, outcomeOf, ringOutcomeOf};
+ghost use Rattle.script.specs.Rows.{reply, replyOf};
+ghost use Rattle.script.specs.Calls.{RanAs};
+use crate::records;
+use crate::rows;
+use icbmsg::Region;
+use link::Answer;
+use link::Called;
+use link::End;
+use link::RingCalled;
+
+// How many bytes of each region calls are lent, if the memory has as many.
+pub struct Lent {
+    pub tx: usize,
+    pub rx: usize,
+}
+
+// What a record answers, and what it leaves.
+pub struct Stepped {
+    pub reply: [u32; 8],
+    pub end: End,
+    pub lent: Lent,
+}
+
+// What a call answers, and the end that it leaves.
+pub struct Ran {
+    pub reply: [u32; 8],
+    pub end: End,
+}
+
+fn of_call(c: Called) -> Ran
+    ensures { λ r. ⌜ RanAs r (outcomeOf c) ⌝ }
+{
+    let answer = c.answer;
+    let end = c.end;
+    let reply = rows::answered(answer);
+    Ran { reply, end }
+}
+
+fn of_ring_call(c: RingCalled) -> Ran
+    ensures { λ r. ⌜ RanAs r (ringOutcomeOf c) ⌝ }
+{
+    let answer = c.answer;
+    let end = c.end;
+    let reply = rows::ring_answered(answer);
+    Ran { reply, end }
+}
+
+// A room or view of `size` bytes, behind the header of block `start`: the number of its question, and where that is 0 its place.
+fn placed(asked: Answer, g: Region, start: u32, size: usize) -> [u32; 8]
+    requires { ⌜ (answerNumber asked ≡ 0 → blockAt g start + 4 ≤ 1048576) × (size ≤ 1048576) ⌝ }
+    ensures { λ r. ⌜ r ≡ reply (answerNumber asked) [] (pick (eqb (answerNumber asked) 0) (blockAt g start + 4) 0) size ⌝ }
+{
+    let number = rows::answered(asked)[0];
+    if number == 0 {
+        let begin = g.blocks + start * g.size + 4;
+        [0, 0, 0, 0, 0, 0, begin, size as u32]
+    } else {
+        [number, 0, 0, 0, 0, 0, 0, size as u32]
+    }
+}
+
+// The room of a reservation.
+fn room(end: End, tx: &mut [u8], start: u32) -> [u32; 8]
+    ensures { λ r. ⌜ r ≡ replyOf (roomOf (endOf end) (length (now (tx .entry))) start) ⌝ }
+{
+    let asked = end.ask_room(start, tx.len());
+    let size = end.room(tx, start).len();
+    placed(asked, end.tx, start, size)
+}
+
+// The view of a received message.
+fn view(end: End, rx: &[u8], start: u32) -> [u32; 8]
+    ensures { λ r. ⌜ r ≡ replyOf (viewOf (endOf end) (length (now (rx .entry))) start) ⌝ }
+{
+    let asked = end.ask_view(start, rx.len());
+    let size = end.view(rx, start).len();
+    placed(asked, end.rx, start, size)
+}
+
+// Takes a packet off the receive ring, into the first n bytes of the buffer.
+fn pull(end: End, rx: &mut [u8], buffer: &mut [u8], n: u32) -> Ran {
+    let lent = wire::least(n as usize, buffer.len());
+    let pulled = end.pull(rx, &mut buffer[..lent]);
+    of_ring_call(pulled)
+}
+
+// The call of a record, with what it is lent.
+fn call(end: End, kind: u8, body: &[u8], tx: &mut [u8], rx: &mut [u8], buffer: &mut [u8]) -> Ran {
+    let first = records::number(body, 0);
+    let second = records::number(body, 4);
+    match kind {
+        0 => of_call(end.arrival(rx, body)),
+        1 => of_call(end.register(tx, body)),
+        2 => of_call(end.reserve(first)),
+        3 => of_call(end.send(tx, first, second, records::number(body, 8))),
+        4 => of_call(end.drop(first)),
+        5 => of_call(end.done(first)),
+        6 => of_ring_call(end.push(tx, body)),
+        16 => of_ring_call(end.start(tx)),
+        17 => pull(end, rx, buffer, records::only_number(body)),
+        18 => {
+            let reply = room(end, tx, first);
+            Ran { reply, end }
+        }
+        19 => {
+            let reply = view(end, rx, first);
+            Ran { reply, end }
+        }
+        20 => {
+            let reply = rows::answered(end.ask_room(first, second as usize));
+            Ran { reply, end }
+        }
+        _ => {
+            let reply = rows::answered(end.ask_view(first, second as usize));
+            Ran { reply, end }
+        }
+    }
+}
+
+// Puts the bytes of a record behind its offset into the memory, as many as it has.
+fn write(memory: &mut [u8], body: &[u8]) {
+    let p = records::number(body, 0) as usize;
+    if body.len() < 4 {
+        return;
+    }
+    if memory.len() < p {
+        return;
+    }
+    let n = wire::least(body.len() - 4, memory.len() - p);
+    wire::copy(memory, p, body, 4, n);
+}
+
+// Runs a record on the end.
+pub fn step(
+    end: End,
+    lent: Lent,
+    kind: u8,
+    body: &[u8],
+    tx: &mut [u8],
+    rx: &mut [u8],
+    buffer: &mut [u8],
+) -> Stepped {
+    match kind {
+        32 => {
+            write(rx, body);
+            Stepped {
+                reply: [0; 8],
+                end,
+                lent,
+            }
+        }
+        33 => {
+            write(tx, body);
+            Stepped {
+                reply: [0; 8],
+                end,
+                lent,
+            }
+        }
+        34 => Stepped {
+            reply: [0; 8],
+            end,
+            lent: Lent {
+                tx: records::number(body, 0) as usize,
+                rx: records::number(body, 4) as usize,
+            },
+        },
+        _ => {
+            let n = wire::least(lent.tx, tx.len());
+            let m = wire::least(lent.rx, rx.len());
+            let ran = call(end, kind, body, &mut tx[..n], &mut rx[..m], buffer);
+            let reply = ran.reply;
+            let left = ran.end;
+            Stepped {
+                reply,
+                end: left,
+                lent,
+            }
+        }
+    }
+}

@@ -1,0 +1,97 @@
+// A row: the 14 numbers that a script gives for its opening and for each record.
+ghost use mathlib.Core.Path.{_≡_};
+ghost use Prim.Native.Nat.{_+_, _≤_};
+ghost use lib.ListN.{length};
+ghost use Rattle.link.specs.Answers.{answerNumber, answerValues, ringNumber, ringValues};
+ghost use Rattle.script.specs.Rows.{reply};
+use icmsg::RingAnswer;
+use link::Answer;
+use link::End;
+
+// Bytes of a row.
+pub const BYTES: usize = 56;
+
+// What a row begins with: the number, how many values, four values (0 where there are fewer), begin and size of a room or view.
+pub fn answered(a: Answer) -> [u32; 8]
+    ensures { λ r. ⌜ r ≡ reply (answerNumber a) (answerValues a) 0 0 ⌝ }
+{
+    match a {
+        Answer::Accepted => [0; 8],
+        Answer::Run { start, count } => [0, 2, start, count, 0, 0, 0, 0],
+        Answer::Control {
+            kind,
+            address,
+            block,
+        } => [0, 3, kind as u32, address as u32, block as u32, 0, 0, 0],
+        Answer::Delivered {
+            address,
+            block,
+            length,
+        } => [0, 3, address as u32, block as u32, length, 0, 0, 0],
+        Answer::Refused(x) => [x.number(), 0, 0, 0, 0, 0, 0, 0],
+    }
+}
+
+// Of start, push and pull: the length, 0 on a refusal.
+pub fn ring_answered(a: RingAnswer) -> [u32; 8]
+    ensures { λ r. ⌜ r ≡ reply (ringNumber a) (ringValues a) 0 0 ⌝ }
+{
+    match a {
+        RingAnswer::Accepted { length, index: _ } => [0, 1, length, 0, 0, 0, 0, 0],
+        RingAnswer::Refused(x) => [x.number(), 1, 0, 0, 0, 0, 0, 0],
+    }
+}
+
+const MODULUS: u64 = 65521;
+
+// Bytes that are summed before a remainder is taken.
+const PIECE: usize = 4096;
+
+// The sum of the n bytes from p on, each times its position plus 1, but for multiples of the modulus.
+fn sum_piece(s: &[u8], p: usize, n: usize) -> u64
+    requires { ⌜ (n ≤ 4096) × (p + n ≤ length (now s)) ⌝ }
+    ensures { λ r. ⌜ r ≤ 72713564160 ⌝ }
+{
+    let weight = p as u64 % MODULUS + 1;
+    let mut sum: u64 = 0;
+    let mut i = 0;
+    while i < n {
+        sum += wire::wide(s[p + i]) as u64 * (weight + i as u64);
+        i += 1;
+    }
+    sum
+}
+
+// The sum of all bytes, each times its position plus 1, modulo 65,521.
+fn sum(s: &[u8]) -> u32 {
+    let mut total: u64 = 0;
+    let mut p = 0;
+    while p < s.len() {
+        let n = wire::least(s.len() - p, PIECE);
+        total = (total + sum_piece(s, p, n)) % MODULUS;
+        p += n;
+    }
+    total as u32
+}
+
+// The row of a record that was answered so, and left the end and the memory so.
+pub fn row(begun: [u32; 8], end: End, tx: &[u8], rx: &[u8], buffer: &[u8]) -> [u32; 14] {
+    let sent = end.sent;
+    let held = end.held;
+    [
+        begun[0],
+        begun[1],
+        begun[2],
+        begun[3],
+        begun[4],
+        begun[5],
+        begun[6],
+        begun[7],
+        blocks::free_blocks(sent, end.tx.count),
+        blocks::free_blocks(held, end.rx.count),
+        sum(tx),
+        sum(rx),
+        sum(buffer),
+        0,
+    ]
+}
