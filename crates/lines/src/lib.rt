@@ -4,7 +4,7 @@ use blocks::Use;
 use icmsg::RingAnswer;
 use refusal::Refusal;
 
-const WIDTH: usize = 120;
+const WIDTH: usize = 160;
 
 // The columns of a call's text, of the last digit of its number, and of its values.
 const CALL: usize = 7;

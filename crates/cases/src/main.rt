@@ -1,0 +1,60 @@
+// The bench case of 01 that no theorem holds: "An empty ring with 64 data bytes takes seven such packets; the eighth is 10."
+use icbmsg::Bounds;
+use icbmsg::Opening;
+use icmsg::RingAnswer;
+use lines::Line;
+use link::End;
+
+// Bytes of a region whose ring minimum leaves 64 data bytes: 4 + 4 + 8 × (3 + 3 + 2), and three blocks of four bytes behind it.
+const REGION: u32 = 84;
+
+fn opened() -> End {
+    let tx = Bounds {
+        begin: 0x20070000,
+        end: 0x20070000 + REGION,
+        blocks: 3,
+    };
+    let rx = Bounds {
+        begin: 0x20078000,
+        end: 0x20078000 + REGION,
+        blocks: 3,
+    };
+    let called = End::open(Opening { align: 4, tx, rx });
+    called.end
+}
+
+fn number_of(a: RingAnswer) -> u32 {
+    match a {
+        RingAnswer::Accepted {
+            length: _,
+            index: _,
+        } => 0,
+        RingAnswer::Refused(x) => x.number(),
+    }
+}
+
+// Pushes the control message for data, address 2, block 5, and prints the number of the answer.
+fn push(end: End, tx: &mut [u8], i: u32) -> End {
+    let message = [0u8, 2, 5];
+    let pushed = end.push(tx, &message);
+    let answer = pushed.answer;
+    let line = Line::new().text(b"packet ").number(i).text(b" is ");
+    line.number(number_of(answer)).print();
+    pushed.end
+}
+
+fn main() {
+    let mut region = [0u8; 84];
+    let tx: &mut [u8] = &mut region;
+    let mut end = opened();
+    let line = Line::new().text(b"a ring with ");
+    line.number(end.tx.ring).text(b" data bytes").print();
+    let mut i: u32 = 1;
+    while i <= 8 {
+        end = push(end, tx, i);
+        i += 1;
+    }
+    let bytes = &tx[..];
+    let line = Line::new().text(b"the first packet:");
+    line.hex_bytes(&bytes[8..16]).print();
+}
