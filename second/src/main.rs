@@ -1,6 +1,8 @@
 //! Compares an independent second implementation of Petrelknob with the
 //! proved code.
 
+mod end;
+mod fault;
 mod layout;
 mod layout_cases;
 mod layout_inputs;
@@ -15,69 +17,187 @@ mod ring_faults;
 mod ring_hostile;
 mod ring_inputs;
 mod ring_link;
+mod script;
 mod tally;
+mod traffic;
 mod twin;
 
 use std::env;
+use std::fs;
 use std::process::ExitCode;
+use std::time::{Duration, SystemTime, UNIX_EPOCH};
 
+use fault::Fault;
 use report::Report;
+use traffic::Opponent;
 
 type Comparison = fn(&Settings, &mut Report);
 
 /// The comparisons there are, by the word that asks for one alone.
-const COMPARISONS: [(&str, Comparison); 2] =
-    [("layout", layout_cases::run), ("ring", ring_cases::run)];
+const COMPARISONS: [(&str, Comparison); 4] = [
+    ("layout", layout_cases::run),
+    ("ring", ring_cases::run),
+    ("end", traffic::run),
+    ("faults", traffic::run_faults),
+];
+
+const USAGE: &str = "\
+usage: second [layout | ring | end | faults]... [--seed N] [--cases N] [--calls N] [--fault NAME]
+       second soak --minutes N [--seed N] [--fault NAME]
+       second script FILE [--fault NAME]
+
+Without a word all comparisons run:
+  layout, ring  with the proved functions of the panel
+  end           random traffic: call scripts, run by both sides
+  faults        plants faults in the second implementation; the traffic must find them
+soak            traffic with one seed after the other, until the time is over
+script          runs one call script with the slices of script_main and shows the rows
+
+--seed N        decides all random inputs (1; of soak, the clock)
+--cases N       random cases of layout and of ring, at least 1
+--calls N       calls of the traffic, at least 1
+--fault NAME    traffic against the second implementation itself with this fault, as listed by
+                faults, to see what a failure looks like
+N is decimal.";
 
 pub struct Settings {
     /// Decides all random inputs.
     pub seed: u64,
-    /// Random inputs of each comparison, divided among its mixtures.
+    /// Random inputs of the layout and of the ring comparison, divided among
+    /// their mixtures.
     pub cases: u64,
+    /// Calls of the random traffic, divided among its kinds.
+    pub calls: u64,
+    /// What the traffic is compared with.
+    pub opponent: Opponent,
 }
 
-struct CommandLine {
-    settings: Settings,
+/// What is to be done.
+enum Task {
     /// The comparisons asked for; none named is all.
-    words: Vec<String>,
+    Compare(Vec<String>),
+    Soak {
+        minutes: u64,
+    },
+    Script {
+        file: String,
+    },
 }
 
 fn main() -> ExitCode {
-    let Some(CommandLine { settings, words }) = parse(env::args().skip(1)) else {
-        let names = COMPARISONS.map(|(name, _)| name).join(" | ");
-        eprintln!("usage: second [{names}] [--seed N] [--cases N]");
-        eprintln!("Without a word all comparisons run. N is decimal, of --cases at least 1.");
+    let Some((task, settings)) = parse(env::args().skip(1)) else {
+        eprintln!("{USAGE}");
         return ExitCode::from(2);
     };
-
-    println!("seed {}, {} random cases", settings.seed, settings.cases);
-    let mut report = Report::new();
-    for (name, run) in COMPARISONS {
-        if words.is_empty() || words.iter().any(|word| word == name) {
-            run(&settings, &mut report);
-        }
-    }
-    if report.finish() {
+    let good = match task {
+        Task::Compare(words) => compare(&words, &settings),
+        Task::Soak { minutes } => soak(minutes, &settings),
+        Task::Script { file } => script(&file, &settings),
+    };
+    if good {
         ExitCode::SUCCESS
     } else {
         ExitCode::FAILURE
     }
 }
 
-/// None if a word is unknown or an option has no good number.
-fn parse(mut arguments: impl Iterator<Item = String>) -> Option<CommandLine> {
+fn compare(words: &[String], settings: &Settings) -> bool {
+    let Settings {
+        seed, cases, calls, ..
+    } = settings;
+    println!("seed {seed}, {cases} random cases, {calls} calls");
+    let mut report = Report::new(Duration::from_secs(2));
+    for (name, run) in COMPARISONS {
+        if words.is_empty() || words.iter().any(|word| word == name) {
+            run(settings, &mut report);
+        }
+    }
+    report.finish()
+}
+
+fn soak(minutes: u64, settings: &Settings) -> bool {
+    println!("seed {}, {minutes} minutes", settings.seed);
+    let mut report = Report::new(Duration::from_secs(10));
+    traffic::soak(settings, minutes, &mut report);
+    report.finish()
+}
+
+/// Shows one script; true if both sides agree on it.
+fn script(file: &str, settings: &Settings) -> bool {
+    let script = match fs::read(file) {
+        Ok(script) => script,
+        Err(error) => {
+            eprintln!("{file}: {error}");
+            return false;
+        }
+    };
+    let case = traffic::in_script_main(script);
+    let made = case.run(settings.opponent);
+    print!("{}", traffic::show(&case, &made, settings.opponent));
+    if made.alike() {
+        println!("Both sides agree.");
+    } else {
+        println!("The sides differ.\n  {}", made.difference());
+    }
+    made.alike()
+}
+
+/// None if a word is unknown or an option has no good value.
+fn parse(mut arguments: impl Iterator<Item = String>) -> Option<(Task, Settings)> {
+    let mut seed = None;
+    let mut minutes = None;
     let mut settings = Settings {
         seed: 1,
         cases: 3_000_000,
+        calls: 2_000_000,
+        opponent: Opponent::Proved,
     };
     let mut words = Vec::new();
     while let Some(argument) = arguments.next() {
         match argument.as_str() {
-            "--seed" => settings.seed = arguments.next()?.parse().ok()?,
-            "--cases" => settings.cases = arguments.next()?.parse().ok().filter(|&n| n > 0)?,
-            word if COMPARISONS.iter().any(|&(name, _)| name == word) => words.push(argument),
-            _ => return None,
+            "--seed" => seed = Some(arguments.next()?.parse().ok()?),
+            "--cases" => settings.cases = positive(arguments.next()?)?,
+            "--calls" => settings.calls = positive(arguments.next()?)?,
+            "--minutes" => minutes = Some(positive(arguments.next()?)?),
+            "--fault" => settings.opponent = planted(&arguments.next()?)?,
+            _ => words.push(argument),
         }
     }
-    Some(CommandLine { settings, words })
+    settings.seed = seed.unwrap_or(settings.seed);
+    let task = match (
+        &words.iter().map(String::as_str).collect::<Vec<_>>()[..],
+        minutes,
+    ) {
+        (["soak"], Some(minutes)) => {
+            settings.seed = seed.unwrap_or_else(clock);
+            Task::Soak { minutes }
+        }
+        (["script", file], None) => Task::Script {
+            file: file.to_string(),
+        },
+        (known, None) if known.iter().all(|word| is_comparison(word)) => Task::Compare(words),
+        _ => return None,
+    };
+    Some((task, settings))
+}
+
+fn positive(number: String) -> Option<u64> {
+    number.parse().ok().filter(|&number| number > 0)
+}
+
+fn is_comparison(word: &str) -> bool {
+    COMPARISONS.iter().any(|&(name, _)| name == word)
+}
+
+/// The second implementation with the fault of that name.
+fn planted(name: &str) -> Option<Opponent> {
+    let mut faults = Fault::ALL.iter();
+    let fault = faults.find(|fault| fault.name() == name)?;
+    Some(Opponent::Planted(*fault))
+}
+
+/// A seed that nobody chose.
+fn clock() -> u64 {
+    let since = SystemTime::now().duration_since(UNIX_EPOCH);
+    since.map_or(0, |since| since.as_micros() as u64)
 }

@@ -1,6 +1,7 @@
 //! The proved code, reached as the panel program reaches it.
 
 use crate::layout::Request;
+use crate::script::Memory;
 
 extern "C" {
     fn petrelknob_layout(
@@ -42,6 +43,19 @@ extern "C" {
         answer: *mut u32,
         answer_length: usize,
     ) -> u32;
+
+    fn petrelknob_script(
+        script: *const u8,
+        script_length: usize,
+        transmit: *mut u8,
+        transmit_length: usize,
+        receive: *mut u8,
+        receive_length: usize,
+        buffer: *mut u8,
+        buffer_length: usize,
+        out: *mut u8,
+        out_length: usize,
+    ) -> usize;
 }
 
 /// Returns 0 or the refusal number, and writes the five values of the layout
@@ -117,6 +131,31 @@ pub fn pull(
             buffer.len(),
             answer.as_mut_ptr(),
             answer.len(),
+        )
+    }
+}
+
+/// Runs a call script, as `script::run` does.
+pub fn script(script: &[u8], memory: Memory, out: &mut [u8]) -> usize {
+    let Memory {
+        transmit,
+        receive,
+        buffer,
+    } = memory;
+    // SAFETY: pointers and lengths are those of slices lent for this call, and
+    // the function writes nowhere but in the four that may be written.
+    unsafe {
+        petrelknob_script(
+            script.as_ptr(),
+            script.len(),
+            transmit.as_mut_ptr(),
+            transmit.len(),
+            receive.as_mut_ptr(),
+            receive.len(),
+            buffer.as_mut_ptr(),
+            buffer.len(),
+            out.as_mut_ptr(),
+            out.len(),
         )
     }
 }

@@ -45,6 +45,16 @@ impl Random {
     pub fn pick<T: Copy>(&mut self, choices: &[T]) -> T {
         choices[self.below(choices.len() as u64) as usize]
     }
+
+    /// Takes one out, if there are any; the others may change places.
+    pub fn take<T>(&mut self, from: &mut Vec<T>) -> Option<T> {
+        let count = from.len() as u64;
+        (count > 0).then(|| from.swap_remove(self.below(count) as usize))
+    }
+
+    pub fn bytes(&mut self, length: usize) -> Vec<u8> {
+        (0..length).map(|_| self.any() as u8).collect()
+    }
 }
 
 /// Random bytes, made once: slices of them are faster than new ones for every

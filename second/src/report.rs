@@ -10,6 +10,9 @@ const PRINTED_MISMATCHES: u64 = 10;
 /// than a look at the clock.
 const INPUTS_PER_CLOCK: u64 = 1024;
 
+/// A line that is rewritten in place can be so more often.
+const TERMINAL_PAUSE: Duration = Duration::from_millis(300);
+
 pub struct Report {
     passed: u64,
     failed: u64,
@@ -17,11 +20,12 @@ pub struct Report {
 }
 
 impl Report {
-    pub fn new() -> Self {
+    /// Off a terminal there is a line of progress after each pause.
+    pub fn new(pause: Duration) -> Self {
         Report {
             passed: 0,
             failed: 0,
-            progress: Progress::new(),
+            progress: Progress::new(pause),
         }
     }
 
@@ -31,6 +35,8 @@ impl Report {
             name,
             inputs: 0,
             mismatches: 0,
+            started: Instant::now(),
+            note: String::new(),
             progress: &mut self.progress,
         };
         run(&mut group);
@@ -62,6 +68,9 @@ pub struct Group<'a> {
     name: &'a str,
     inputs: u64,
     mismatches: u64,
+    started: Instant,
+    /// What else the progress line says.
+    note: String,
     progress: &'a mut Progress,
 }
 
@@ -70,8 +79,23 @@ impl Group<'_> {
     pub fn input(&mut self) {
         self.inputs += 1;
         if self.inputs.is_multiple_of(INPUTS_PER_CLOCK) {
-            self.progress.show(self.name, self.inputs);
+            let rate = self.inputs as f64 / self.started.elapsed().as_secs_f64();
+            self.progress.show(|| {
+                format!(
+                    "{}: {} compared, {rate:.0} per second{}",
+                    self.name, self.inputs, self.note
+                )
+            });
         }
+    }
+
+    /// Puts something at the end of the progress line.
+    pub fn note(&mut self, note: &str) {
+        self.note = format!(", {note}");
+    }
+
+    pub fn has_failed(&self) -> bool {
+        self.mismatches > 0
     }
 
     /// Counts a mismatch and prints its description, if it is an early one.
@@ -103,28 +127,28 @@ struct Progress {
 }
 
 impl Progress {
-    fn new() -> Self {
+    fn new(pause: Duration) -> Self {
         let terminal = stderr().is_terminal();
         Progress {
             terminal,
-            pause: Duration::from_millis(if terminal { 300 } else { 2000 }),
+            pause: if terminal { TERMINAL_PAUSE } else { pause },
             last: Instant::now(),
             shown: false,
         }
     }
 
-    fn show(&mut self, name: &str, inputs: u64) {
+    fn show(&mut self, line: impl FnOnce() -> String) {
         if self.last.elapsed() < self.pause {
             return;
         }
         self.last = Instant::now();
         if self.terminal {
-            eprint!("\r\x1b[K{name}: {inputs} compared");
+            eprint!("\r\x1b[K{}", line());
             // A lost progress line is no reason to stop.
             let _ = stderr().flush();
             self.shown = true;
         } else {
-            eprintln!("{name}: {inputs} compared");
+            eprintln!("{}", line());
         }
     }
 

@@ -3,6 +3,7 @@
 //! The writer keeps the write index and the reader the read index. A caller
 //! hands its own one in, so that only the partner's is read from memory.
 
+use crate::fault::{planted, unless, Fault};
 use crate::layout::{lay_out, Request};
 use crate::refusal::Refusal;
 
@@ -40,11 +41,15 @@ pub fn push(
         .ok_or(Refusal::PartnerIndex)?;
     let packet = packet(content);
     // Were all bytes used, the indexes would be equal, as in an empty ring.
-    if packet.len() + ring.distance(read, write) > ring.data.len() - 1 {
+    let most = unless(Fault::FullAtLength, ring.data.len() - 1, ring.data.len());
+    let unpadded = PACKET_HEADER + content.len();
+    let counted = unless(Fault::PaddingUncounted, packet.len(), unpadded);
+    if counted + ring.distance(read, write) > most {
         return Err(Refusal::NoRoom);
     }
 
-    for (place, byte) in ring.once_around(write).zip(&packet) {
+    let written = unless(Fault::PaddingLeft, packet.len(), unpadded);
+    for (place, byte) in ring.once_around(write).zip(&packet[..written]) {
         *place = *byte;
     }
     let own_index = past(write, packet.len(), ring.data.len());
@@ -64,18 +69,24 @@ pub fn pull(
     buffer: &mut [u8],
 ) -> Result<Moved, Refusal> {
     let mut ring = Ring::find(request, region)?;
+    let in_memory = u32::from_le_bytes(*ring.read_index);
+    let own_index = unless(Fault::OwnIndexRead, own_index, in_memory);
     let read = ring.in_rule(own_index).ok_or(Refusal::Lent)?;
     let write = ring
         .in_rule(u32::from_le_bytes(*ring.write_index))
         .ok_or(Refusal::PartnerIndex)?;
     let unread = ring.distance(read, write);
-    if unread == 0 {
+    if unread == 0 && !planted(Fault::EmptyIsBroken) {
         return Err(Refusal::RingEmpty);
     }
     // Data and index are multiples of 4, so these two bytes do not wrap.
     let length = u16::from_be_bytes([ring.data[read], ring.data[read + 1]]);
     let packet_length = packet_length(usize::from(length));
-    if packet_length > unread {
+    let content_alone = usize::from(length);
+    let counted = unless(Fault::PacketHeaderUncounted, packet_length, content_alone);
+    let reserved = &ring.data[read + 2..read + PACKET_HEADER];
+    let reserved_read = planted(Fault::ReservedBytesRead) && reserved != [0, 0];
+    if counted > unread || reserved_read {
         return Err(Refusal::PacketTooLong);
     }
 
@@ -88,8 +99,9 @@ pub fn pull(
     }
     let own_index = past(read, packet_length, ring.data.len());
     *ring.read_index = own_index.to_le_bytes();
+    let copied = usize::from(length).min(buffer.len()) as u16;
     Ok(Moved {
-        length: u32::from(length),
+        length: unless(Fault::CopiedReported, length, copied).into(),
         own_index,
     })
 }
@@ -104,7 +116,8 @@ pub fn past(index: usize, bytes: usize, data_length: usize) -> u32 {
     ((index + bytes) % data_length) as u32
 }
 
-fn packet(content: &[u8]) -> Vec<u8> {
+/// The bytes of a packet.
+pub fn packet(content: &[u8]) -> Vec<u8> {
     let length = u16::try_from(content.len()).expect("a longer content is refused");
     let mut packet = length.to_be_bytes().to_vec();
     packet.extend([0, 0]);
@@ -151,7 +164,10 @@ impl<'a> Ring<'a> {
     /// begin.
     fn in_rule(&self, index: u32) -> Option<usize> {
         let index = index as usize;
-        (index < self.data.len() && index.is_multiple_of(UNIT)).then_some(index)
+        let length = self.data.len();
+        let below = unless(Fault::IndexAtLength, length, length + 1);
+        let on_unit = index.is_multiple_of(UNIT) || planted(Fault::IndexOffUnit);
+        (index < below && on_unit).then_some(index)
     }
 
     /// Bytes from the read index on to the write index.

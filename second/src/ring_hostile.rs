@@ -82,7 +82,7 @@ fn hostile_call(
 }
 
 /// An index that a hostile partner writes.
-fn hostile_index(random: &mut Random, place: Place, own_index: u32) -> u32 {
+pub fn hostile_index(random: &mut Random, place: Place, own_index: u32) -> u32 {
     let data_length = place.data_length as i64;
     match random.below(8) {
         0..=2 => place.index(random),
@@ -96,7 +96,7 @@ fn hostile_index(random: &mut Random, place: Place, own_index: u32) -> u32 {
 }
 
 /// The length that a packet claims, where `unread` bytes are unread.
-fn hostile_length(random: &mut Random, unread: usize) -> u16 {
+pub fn hostile_length(random: &mut Random, unread: usize) -> u16 {
     match random.below(4) {
         0 | 1 => (unread as i64 + random.between(-12, 4)).clamp(0, 65_535) as u16,
         2 => random.pick(&[

@@ -1,5 +1,6 @@
 //! Inputs of the ring comparison: regions, indexes and lengths.
 
+use crate::end::Region;
 use crate::layout::{lay_out, ring_header, Request, ALIGNMENTS};
 use crate::layout_inputs::{good_numbers, Numbers, LAST, USUAL};
 use crate::random::Random;
@@ -24,6 +25,14 @@ impl Place {
             request,
             data_length: layout.ring_data_length as usize,
         })
+    }
+
+    /// A region of an open end.
+    pub fn of(region: &Region) -> Self {
+        Place {
+            request: region.request,
+            data_length: region.layout.ring_data_length as usize,
+        }
     }
 
     /// A region whose ring has exactly that many data bytes, if the numbers

@@ -20,20 +20,47 @@ impl Tally {
         self.occurrences[number as usize] += 1;
     }
 
-    /// A comparison that hardly met some outcome has shown little about it.
+    /// Prints how often each of these outcomes occurred, and checks it.
     pub fn check(&self, group: &mut Group, call: &str, numbers: &[u32]) {
         for &number in numbers {
             let name = outcome_name(number);
-            let occurrences = self.occurrences[number as usize];
+            let occurrences = self.occurrences(number);
             println!("{call} outcomes: {name:<10} {occurrences:>10}");
+        }
+        self.check_least(group, call, numbers);
+    }
+
+    /// A comparison that hardly met some outcome has shown little about it.
+    pub fn check_least(&self, group: &mut Group, call: &str, numbers: &[u32]) {
+        for &number in numbers {
+            let occurrences = self.occurrences(number);
             group.input();
             if occurrences < LEAST_OCCURRENCES {
                 group.mismatch(|| {
+                    let name = outcome_name(number);
                     format!(
                         "{call}: {name} occurred {occurrences} times, under {LEAST_OCCURRENCES}"
                     )
                 });
             }
         }
+    }
+
+    /// An outcome that the rules do not give to the call must not occur.
+    pub fn check_no_other(&self, group: &mut Group, call: &str, numbers: &[u32]) {
+        for number in (0..OUTCOMES as u32).filter(|number| !numbers.contains(number)) {
+            let occurrences = self.occurrences(number);
+            group.input();
+            if occurrences > 0 {
+                group.mismatch(|| {
+                    let name = outcome_name(number);
+                    format!("{call}: {name} occurred {occurrences} times, and never should")
+                });
+            }
+        }
+    }
+
+    pub fn occurrences(&self, number: u32) -> u64 {
+        self.occurrences[number as usize]
     }
 }

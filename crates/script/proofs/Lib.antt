@@ -1,3 +1,5 @@
-pub mod Memory
 pub mod Places
 pub mod Sums
+pub mod FirstRecord
+pub mod CallKinds
+pub mod Memory

@@ -10,7 +10,7 @@ use lib.ListN.{length, take, drop, length-take, length-drop}
 use Rattle.wire.specs.Choice.{pick}
 use Rattle.blocks.specs.Tables.{starts, startsData}
 use Rattle.blocks.specs.declared.Use.the-variants.{Reserved}
-use Rattle.icbmsg.specs.Outcome.{Outcome, refused, placed}
+use Rattle.icbmsg.specs.Outcome.{Outcome, refused, placed, check}
 use Rattle.icbmsg.specs.Ends.{whole, blockAt}
 use Rattle.icbmsg.specs.Messages.{roomOf, viewOf, roomQuestion, viewQuestion}
 use Rattle.icbmsg.specs.declared.Region.{Region}
@@ -65,6 +65,20 @@ module _ (e : End) (n s : ℕ) where
       go : (b : Bool) → whole e (e .rx) n ≡ b → Handed (e .rx) s n (viewOf e n s) (viewQuestion e s n)
       go false h = let r = view-6 e n s h in none-handed (e .rx) s n 5 e _ _ (r .0) (r .1)
       go true h = on (startsData (e .rx .count) (e .rx .size) (e .held) s) h refl
+
+-- ---- neither changes the end
+
+check-next : (b : Bool) (n : ℕ) (e : End) (o : Outcome) → o .next ≡ e → check b n e o .next ≡ e
+check-next true n e o h = h
+check-next false n e o h = refl
+
+pub room-next : (e : End) (n s : ℕ) → roomOf e n s .next ≡ e
+unfolding roomOf
+room-next e n s = check-next (whole e (e .tx) n) 6 e _ (check-next (starts Reserved (e .tx .count) (e .sent) s) 25 e _ refl)
+
+pub view-next : (e : End) (n s : ℕ) → viewOf e n s .next ≡ e
+unfolding viewOf
+view-next e n s = check-next (whole e (e .rx) n) 6 e _ (check-next (startsData (e .rx .count) (e .rx .size) (e .held) s) 25 e _ refl)
 
 -- ---- by what the code has: the question's number, and the part that it was lent
 

@@ -1,16 +1,54 @@
--- The opening and the records of a script.
-use Prim.Native.Nat.{ℕ, _+_, _≤_}
+-- The opening and the records of a script. All numbers are little-endian.
+use Prim.Native.Nat.{ℕ, _-_}
+use mathlib.Core.Bool.{Bool, true, _&&_, _||_}
+use mathlib.Core.List.{List}
+use lib.Dec.{leb, ltb, eqb}
+use lib.ListN.{length, getD}
+use Rattle.wire.specs.Choice.{pick}
+use Rattle.wire.specs.Bytes.{fromLittleEndian, straight, bytes}
+use Rattle.icbmsg.specs.declared.Opening.{Opening as EndOpening}
+use Rattle.icbmsg.specs.declared.Bounds.{Bounds}
 use Rattle.script.specs.declared.records.Begun.{Begun}
 use Rattle.script.specs.declared.records.Begun.the-variants.{Short, Opening}
 use Rattle.script.specs.declared.records.Next.{Next}
 use Rattle.script.specs.declared.records.Next.the-variants.{Stop, Whole}
 
--- an opening lies in the n bytes of a script
-abbrev pub BegunIn : Begun → ℕ → Type 0
-BegunIn Short n = Unit {0}
-BegunIn (Opening o) n = 22 ≤ n
+-- the number of n bytes at p
+abbrev pub numberAt : ℕ → List ℕ → ℕ → ℕ
+numberAt n s p = fromLittleEndian (bytes s (straight p) n)
 
--- a record lies in the n bytes that are left
-abbrev pub NextIn : Next → ℕ → Type 0
-NextIn Stop n = Unit {0}
-NextIn (Whole k l) n = l + 3 ≤ n
+-- "transmit begin, end, receive begin, end (4 each), transmit blocks, receive blocks, alignment (2 each)"
+abbrev pub openingOf : List ℕ → EndOpening
+openingOf s =
+    record {
+      align = numberAt 2 s 20;
+      tx = record { begin = numberAt 4 s 0; end = numberAt 4 s 4; blocks = numberAt 2 s 16 };
+      rx = record { begin = numberAt 4 s 8; end = numberAt 4 s 12; blocks = numberAt 2 s 18 };
+    }
+
+unfoldable pub begun : List ℕ → Begun
+begun s = pick (ltb (length s) 22) Short (Opening (openingOf s))
+
+-- "as many as the region has"
+abbrev pub bytesOf : Bounds → ℕ
+bytesOf b = b .end - b .begin
+
+-- the format has records of kind k with a body of n bytes
+unfoldable pub has : ℕ → ℕ → Bool
+has k n =
+    pick (eqb k 0 || (eqb k 1 || eqb k 6)) true
+    (pick (eqb k 2 || (eqb k 4 || (eqb k 5 || (eqb k 18 || eqb k 19)))) (eqb n 4)
+    (pick (eqb k 3) (eqb n 12)
+    (pick (eqb k 16) (eqb n 0)
+    (pick (eqb k 17) (eqb n 2)
+    (pick (eqb k 20 || (eqb k 21 || eqb k 34)) (eqb n 8)
+    ((eqb k 32 || eqb k 33) && leb 4 n))))))
+
+-- "kind (1), body length (2), body": the record that a list of bytes begins with. None where it is not whole, and none that the format
+-- does not have
+unfoldable pub firstRecord : List ℕ → Next
+firstRecord s =
+    pick (ltb (length s) 3) Stop
+    (pick (ltb (length s - 3) (numberAt 2 s 1)) Stop
+    (pick (has (getD s 0 0) (numberAt 2 s 1)) (Whole (getD s 0 0) (numberAt 2 s 1))
+    Stop))

@@ -2,7 +2,9 @@
 use Prim.Native.Nat.{ℕ, suc, _+_, _*_, _%_}
 use mathlib.Core.List.{List, [], _∷_}
 use lib.ListN.{length, getD}
+use Rattle.blocks.specs.Tables.{freeBlocks}
 use Rattle.icbmsg.specs.Outcome.{Outcome}
+use Rattle.icbmsg.specs.End.{End}
 
 -- what it begins with: the number, how many values, four values (0 where there are fewer), and a place
 abbrev pub reply : ℕ → List ℕ → ℕ → ℕ → List ℕ
@@ -10,3 +12,17 @@ reply n vs b z = n ∷ length vs ∷ getD vs 0 0 ∷ getD vs 1 0 ∷ getD vs 2 0
 
 abbrev pub replyOf : Outcome → List ℕ
 replyOf o = reply (o .number) (o .values) (o .begin) (o .size)
+
+-- "every byte times its position plus 1, modulo 65,521", of bytes from position p on
+unfoldable pub weighted : ℕ → List ℕ → ℕ
+weighted p [] = 0
+weighted p (b ∷ s) = b * suc p + weighted (suc p) s
+
+abbrev pub sum : List ℕ → ℕ
+sum s = weighted 0 s % 65521
+
+-- what a row goes on with: free transmit blocks and free receive blocks (a closed end has no blocks), a sum for each memory, and 0
+abbrev pub rowOf : List ℕ → End → List ℕ → List ℕ → List ℕ → List ℕ
+rowOf begun e tx rx buffer =
+    getD begun 0 0 ∷ getD begun 1 0 ∷ getD begun 2 0 ∷ getD begun 3 0 ∷ getD begun 4 0 ∷ getD begun 5 0 ∷ getD begun 6 0 ∷ getD begun 7 0
+    ∷ freeBlocks (e .tx .count) (e .sent) ∷ freeBlocks (e .rx .count) (e .held) ∷ sum tx ∷ sum rx ∷ sum buffer ∷ 0 ∷ []

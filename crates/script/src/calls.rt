@@ -1,16 +1,18 @@
 // What a record does: a call on the end, or a write to the memory around it.
 ghost use mathlib.Core.Path.{_≡_};
+ghost use mathlib.Core.Bool.{true};
 ghost use mathlib.Core.List.{[]};
 ghost use Prim.Native.Nat.{_+_, _≤_};
 ghost use lib.Dec.{eqb};
-ghost use lib.ListN.{length};
+ghost use lib.ListN.{length, take};
 ghost use Rattle.wire.specs.Choice.{pick};
 ghost use Rattle.icbmsg.specs.Ends.{blockAt};
 ghost use Rattle.icbmsg.specs.Messages.{roomOf, viewOf};
+ghost use Rattle.icbmsg.specs.Calls.{step as stepRule, pull as pullCall};
 ghost use Rattle.link.specs.Answers.{answerNumber, endOf, outcomeOf, ringOutcomeOf};
 ghost use Rattle.script.specs.Rows.{reply, replyOf};
-ghost use Rattle.script.specs.Calls.{RanAs};
-use crate::records;
+ghost use Rattle.script.specs.Records.{has};
+ghost use Rattle.script.specs.Calls.{IsCall, RanAs, callOutcome, recordStep, stepOf};
 use crate::rows;
 use icbmsg::Region;
 use link::Answer;
@@ -88,56 +90,64 @@ fn view(end: End, rx: &[u8], start: u32) -> [u32; 8]
 }
 
 // Takes a packet off the receive ring, into the first n bytes of the buffer.
-fn pull(end: End, rx: &mut [u8], buffer: &mut [u8], n: u32) -> Ran {
+fn pull(end: End, rx: &mut [u8], buffer: &mut [u8], n: u32) -> Ran
+    ensures { λ r. ⌜ RanAs r (stepRule (endOf end) (pullCall (now (rx .entry)) (take n (now (buffer .entry))))) ⌝ }
+{
     let lent = wire::least(n as usize, buffer.len());
     let pulled = end.pull(rx, &mut buffer[..lent]);
     of_ring_call(pulled)
 }
 
 // The call of a record, with what it is lent.
-fn call(end: End, kind: u8, body: &[u8], tx: &mut [u8], rx: &mut [u8], buffer: &mut [u8]) -> Ran {
-    let first = records::number(body, 0);
-    let second = records::number(body, 4);
+fn call(end: End, kind: u8, body: &[u8], tx: &mut [u8], rx: &mut [u8], buffer: &mut [u8]) -> Ran
+    requires { ⌜ IsCall kind (length (now body)) ⌝ }
+    ensures { λ r. ⌜ RanAs r (callOutcome (endOf end) kind (now (body .entry)) (now (tx .entry)) (now (rx .entry)) (now (buffer .entry))) ⌝ }
+{
     match kind {
         0 => of_call(end.arrival(rx, body)),
         1 => of_call(end.register(tx, body)),
-        2 => of_call(end.reserve(first)),
-        3 => of_call(end.send(tx, first, second, records::number(body, 8))),
-        4 => of_call(end.drop(first)),
-        5 => of_call(end.done(first)),
+        2 => of_call(end.reserve(wire::read_u32(body, 0))),
+        3 => of_call(end.send(
+            tx,
+            wire::read_u32(body, 0),
+            wire::read_u32(body, 4),
+            wire::read_u32(body, 8),
+        )),
+        4 => of_call(end.drop(wire::read_u32(body, 0))),
+        5 => of_call(end.done(wire::read_u32(body, 0))),
         6 => of_ring_call(end.push(tx, body)),
         16 => of_ring_call(end.start(tx)),
-        17 => pull(end, rx, buffer, records::only_number(body)),
+        17 => pull(end, rx, buffer, wire::read_u16(body, 0)),
         18 => {
-            let reply = room(end, tx, first);
+            let reply = room(end, tx, wire::read_u32(body, 0));
             Ran { reply, end }
         }
         19 => {
-            let reply = view(end, rx, first);
+            let reply = view(end, rx, wire::read_u32(body, 0));
             Ran { reply, end }
         }
         20 => {
-            let reply = rows::answered(end.ask_room(first, second as usize));
+            let lent = wire::read_u32(body, 4) as usize;
+            let reply = rows::answered(end.ask_room(wire::read_u32(body, 0), lent));
             Ran { reply, end }
         }
         _ => {
-            let reply = rows::answered(end.ask_view(first, second as usize));
+            let lent = wire::read_u32(body, 4) as usize;
+            let reply = rows::answered(end.ask_view(wire::read_u32(body, 0), lent));
             Ran { reply, end }
         }
     }
 }
 
-// Puts the bytes of a record behind its offset into the memory, as many as it has.
-fn write(memory: &mut [u8], body: &[u8]) {
-    let p = records::number(body, 0) as usize;
-    if body.len() < 4 {
-        return;
+// Puts the bytes behind the offset in a record's body into the memory, as many as it has.
+fn overwrite(memory: &mut [u8], body: &[u8])
+    requires { ⌜ 4 ≤ length (now body) ⌝ }
+{
+    let p = wire::read_u32(body, 0) as usize;
+    if p < memory.len() {
+        let n = wire::least(body.len() - 4, memory.len() - p);
+        wire::copy(memory, p, body, 4, n);
     }
-    if memory.len() < p {
-        return;
-    }
-    let n = wire::least(body.len() - 4, memory.len() - p);
-    wire::copy(memory, p, body, 4, n);
 }
 
 // Runs a record on the end.
@@ -149,30 +159,33 @@ pub fn step(
     tx: &mut [u8],
     rx: &mut [u8],
     buffer: &mut [u8],
-) -> Stepped {
+) -> Stepped
+    requires { ⌜ has kind (length (now body)) ≡ true ⌝ }
+    ensures { λ r. ⌜ stepOf r ≡ recordStep kind (now (body .entry)) (endOf end) (lent .tx) (lent .rx) (now (tx .entry)) (now (rx .entry)) (now (buffer .entry)) ⌝ }
+{
     match kind {
         32 => {
-            write(rx, body);
+            overwrite(rx, body);
             Stepped {
-                reply: [0; 8],
+                reply: [0, 0, 0, 0, 0, 0, 0, 0],
                 end,
                 lent,
             }
         }
         33 => {
-            write(tx, body);
+            overwrite(tx, body);
             Stepped {
-                reply: [0; 8],
+                reply: [0, 0, 0, 0, 0, 0, 0, 0],
                 end,
                 lent,
             }
         }
         34 => Stepped {
-            reply: [0; 8],
+            reply: [0, 0, 0, 0, 0, 0, 0, 0],
             end,
             lent: Lent {
-                tx: records::number(body, 0) as usize,
-                rx: records::number(body, 4) as usize,
+                tx: wire::read_u32(body, 0) as usize,
+                rx: wire::read_u32(body, 4) as usize,
             },
         },
         _ => {

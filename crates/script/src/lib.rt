@@ -3,8 +3,12 @@ mod calls;
 mod records;
 mod rows;
 
+ghost use mathlib.Core.Bool.{true};
+ghost use mathlib.Core.Path.{_≡_};
 ghost use Prim.Native.Nat.{_+_, _≤_};
 ghost use lib.ListN.{length};
+ghost use Rattle.script.specs.Records.{has};
+ghost use Rattle.script.specs.Script.{openingStep, withRow, IsLeft, leftStep};
 use calls::Lent;
 use icbmsg::Opening;
 use link::End;
@@ -12,31 +16,33 @@ use records::Begun;
 use records::Next;
 
 // What a record leaves beside the memory.
-struct Left {
-    end: End,
-    lent: Lent,
+pub struct Left {
+    pub end: End,
+    pub lent: Lent,
 }
 
 // Opens an end, and writes its row.
-fn open(opening: Opening, tx: &mut [u8], rx: &mut [u8], buffer: &mut [u8], out: &mut [u8]) -> Left
+fn open(opening: Opening, tx: &[u8], rx: &[u8], buffer: &[u8], out: &mut [u8]) -> Left
     requires { ⌜ 56 ≤ length (now out) ⌝ }
+    ensures left { λ r. ⌜ IsLeft r (openingStep opening) ⌝ }
+    ensures out { λ _. ⌜ now (out .exit) ≡ withRow (now (out .entry)) 0 (openingStep opening) (now (tx .entry)) (now (rx .entry)) (now (buffer .entry)) ⌝ }
 {
-    let opened = End::open(opening);
-    let answer = opened.answer;
-    let end = opened.end;
+    let called = End::open(opening);
+    let answer = called.answer;
+    let end = called.end;
     let lent = Lent {
         tx: records::bytes(opening.tx),
         rx: records::bytes(opening.rx),
     };
-    let row = rows::row(rows::answered(answer), end, tx, rx, buffer);
+    let number = rows::answered(answer)[0];
+    let row = rows::row([number, 0, 0, 0, 0, 0, 0, 0], end, tx, rx, buffer);
     wire::write_numbers(out, 0, &row);
     Left { end, lent }
 }
 
 // Runs a record, and writes its row at p.
 fn run_record(
-    end: End,
-    lent: Lent,
+    left: Left,
     kind: u8,
     body: &[u8],
     tx: &mut [u8],
@@ -45,18 +51,19 @@ fn run_record(
     out: &mut [u8],
     p: usize,
 ) -> Left
-    requires { ⌜ p + 56 ≤ length (now out) ⌝ }
+    requires { ⌜ (has kind (length (now body)) ≡ true) × (p + 56 ≤ length (now out)) ⌝ }
+    ensures left { λ r. ⌜ IsLeft r (leftStep left kind (now (body .entry)) (now (tx .entry)) (now (rx .entry)) (now (buffer .entry))) ⌝ }
+    ensures out { λ _. ⌜ now (out .exit) ≡ withRow (now (out .entry)) p (leftStep left kind (now (body .entry)) (now (tx .entry)) (now (rx .entry)) (now (buffer .entry))) (now (tx .exit)) (now (rx .exit)) (now (buffer .exit)) ⌝ }
 {
-    let stepped = calls::step(end, lent, kind, body, tx, rx, buffer);
+    let before = left.end;
+    let before_lent = left.lent;
+    let stepped = calls::step(before, before_lent, kind, body, tx, rx, buffer);
     let reply = stepped.reply;
-    let after = stepped.end;
-    let now_lent = stepped.lent;
-    let row = rows::row(reply, after, tx, rx, buffer);
+    let end = stepped.end;
+    let lent = stepped.lent;
+    let row = rows::row(reply, end, tx, rx, buffer);
     wire::write_numbers(out, p, &row);
-    Left {
-        end: after,
-        lent: now_lent,
-    }
+    Left { end, lent }
 }
 
 // Runs the records behind the opening, and answers how many bytes of `out` have rows then.
@@ -80,9 +87,7 @@ fn run_records(
         };
         let begin = at + records::HEADER;
         at = begin + length;
-        let e = left.end;
-        let l = left.lent;
-        left = run_record(e, l, kind, &script[begin..at], tx, rx, buffer, out, written);
+        left = run_record(left, kind, &script[begin..at], tx, rx, buffer, out, written);
         written += rows::BYTES;
     }
     written

@@ -1,7 +1,7 @@
-// The opening and the records of a script. All numbers are little-endian.
-ghost use Prim.Native.Nat.{_+_, _≤_};
+// The opening and the records of a script.
+ghost use mathlib.Core.Path.{_≡_};
 ghost use lib.ListN.{length};
-ghost use Rattle.script.specs.Records.{BegunIn, NextIn};
+ghost use Rattle.script.specs.Records.{begun, bytesOf, has as hasRule, firstRecord};
 use icbmsg::Bounds;
 use icbmsg::Opening;
 
@@ -22,18 +22,9 @@ pub enum Next {
     Whole { kind: u8, length: usize },
 }
 
-// The number of two bytes at p.
-fn short_number(s: &[u8], p: usize) -> u32
-    requires { ⌜ p + 2 ≤ length (now s) ⌝ }
-{
-    let a = wire::wide(s[p]);
-    let b = wire::wide(s[p + 1]);
-    a + 256 * b
-}
-
 // What a script opens.
 pub fn opening(script: &[u8]) -> Begun
-    ensures { λ r. ⌜ BegunIn r (length (now (script .entry))) ⌝ }
+    ensures { λ r. ⌜ r ≡ begun (now (script .entry)) ⌝ }
 {
     if script.len() < OPENING {
         return Begun::Short;
@@ -41,22 +32,24 @@ pub fn opening(script: &[u8]) -> Begun
     let tx = Bounds {
         begin: wire::read_u32(script, 0),
         end: wire::read_u32(script, 4),
-        blocks: short_number(script, 16),
+        blocks: wire::read_u16(script, 16),
     };
     let rx = Bounds {
         begin: wire::read_u32(script, 8),
         end: wire::read_u32(script, 12),
-        blocks: short_number(script, 18),
+        blocks: wire::read_u16(script, 18),
     };
     Begun::Opening(Opening {
-        align: short_number(script, 20),
+        align: wire::read_u16(script, 20),
         tx,
         rx,
     })
 }
 
 // Bytes of a region; none where its end is not above its begin.
-pub fn bytes(b: Bounds) -> usize {
+pub fn bytes(b: Bounds) -> usize
+    ensures { λ r. ⌜ r ≡ bytesOf b ⌝ }
+{
     if b.begin < b.end {
         (b.end - b.begin) as usize
     } else {
@@ -65,28 +58,39 @@ pub fn bytes(b: Bounds) -> usize {
 }
 
 // Whether the format has records of this kind with a body of n bytes.
-fn has(kind: u8, n: usize) -> bool {
-    match kind {
-        0 | 1 | 6 => true,
-        2 | 4 | 5 | 18 | 19 => n == 4,
-        3 => n == 12,
-        16 => n == 0,
-        17 => n == 2,
-        20 | 21 | 34 => n == 8,
-        32 | 33 => 4 <= n,
-        _ => false,
+fn has(kind: u8, n: usize) -> bool
+    ensures { λ r. ⌜ r ≡ hasRule kind n ⌝ }
+{
+    if (kind == 0) | ((kind == 1) | (kind == 6)) {
+        return true;
     }
+    if (kind == 2) | ((kind == 4) | ((kind == 5) | ((kind == 18) | (kind == 19)))) {
+        return n == 4;
+    }
+    if kind == 3 {
+        return n == 12;
+    }
+    if kind == 16 {
+        return n == 0;
+    }
+    if kind == 17 {
+        return n == 2;
+    }
+    if (kind == 20) | ((kind == 21) | (kind == 34)) {
+        return n == 8;
+    }
+    ((kind == 32) | (kind == 33)) & (4 <= n)
 }
 
 // The record that the rest of a script begins with.
 pub fn first_record(rest: &[u8]) -> Next
-    ensures { λ r. ⌜ NextIn r (length (now (rest .entry))) ⌝ }
+    ensures { λ r. ⌜ r ≡ firstRecord (now (rest .entry)) ⌝ }
 {
     if rest.len() < HEADER {
         return Next::Stop;
     }
     let kind = rest[0];
-    let length = short_number(rest, 1) as usize;
+    let length = wire::read_u16(rest, 1) as usize;
     if rest.len() - HEADER < length {
         return Next::Stop;
     }
@@ -95,24 +99,4 @@ pub fn first_record(rest: &[u8]) -> Next
     } else {
         Next::Stop
     }
-}
-
-// The number at p of a record's body. A body that the format has is as long as its numbers; of a shorter one it is 0.
-pub fn number(body: &[u8], p: usize) -> u32 {
-    let n = body.len();
-    if n < 4 {
-        return 0;
-    }
-    if n - 4 < p {
-        return 0;
-    }
-    wire::read_u32(body, p)
-}
-
-// The number of two bytes that a body consists of.
-pub fn only_number(body: &[u8]) -> u32 {
-    if body.len() < 2 {
-        return 0;
-    }
-    short_number(body, 0)
 }

@@ -1,9 +1,9 @@
 // A row: the 14 numbers that a script gives for its opening and for each record.
 ghost use mathlib.Core.Path.{_≡_};
-ghost use Prim.Native.Nat.{_+_, _≤_};
+ghost use Prim.Native.Nat.{_+_, _≤_, _<_};
 ghost use lib.ListN.{length};
-ghost use Rattle.link.specs.Answers.{answerNumber, answerValues, ringNumber, ringValues};
-ghost use Rattle.script.specs.Rows.{reply};
+ghost use Rattle.link.specs.Answers.{endOf, answerNumber, answerValues, ringNumber, ringValues};
+ghost use Rattle.script.specs.Rows.{reply, weighted, sum as sumRule, rowOf};
 use icmsg::RingAnswer;
 use link::Answer;
 use link::End;
@@ -47,35 +47,39 @@ const MODULUS: u64 = 65521;
 // Bytes that are summed before a remainder is taken.
 const PIECE: usize = 4096;
 
-// The sum of the n bytes from p on, each times its position plus 1, but for multiples of the modulus.
-fn sum_piece(s: &[u8], p: usize, n: usize) -> u64
-    requires { ⌜ (n ≤ 4096) × (p + n ≤ length (now s)) ⌝ }
-    ensures { λ r. ⌜ r ≤ 72713564160 ⌝ }
+// The sum of bytes, each times its position plus 1, where the first stands at `first`.
+fn sum_piece(part: &[u8], first: u64) -> u64
+    requires { ⌜ (length (now part) ≤ 4096) × (first < 65521) ⌝ }
+    ensures { λ r. ⌜ (r ≡ weighted first (now (part .entry))) × (r ≤ 72713564160) ⌝ }
 {
-    let weight = p as u64 % MODULUS + 1;
+    let weight = first + 1;
     let mut sum: u64 = 0;
     let mut i = 0;
-    while i < n {
-        sum += wire::wide(s[p + i]) as u64 * (weight + i as u64);
+    while i < part.len() {
+        sum += wire::wide(part[i]) as u64 * (weight + i as u64);
         i += 1;
     }
     sum
 }
 
 // The sum of all bytes, each times its position plus 1, modulo 65,521.
-fn sum(s: &[u8]) -> u32 {
+fn sum(s: &[u8]) -> u32
+    ensures { λ r. ⌜ r ≡ sumRule (now (s .entry)) ⌝ }
+{
     let mut total: u64 = 0;
     let mut p = 0;
     while p < s.len() {
-        let n = wire::least(s.len() - p, PIECE);
-        total = (total + sum_piece(s, p, n)) % MODULUS;
-        p += n;
+        let end = p + wire::least(s.len() - p, PIECE);
+        total = (total + sum_piece(&s[p..end], p as u64 % MODULUS)) % MODULUS;
+        p = end;
     }
     total as u32
 }
 
 // The row of a record that was answered so, and left the end and the memory so.
-pub fn row(begun: [u32; 8], end: End, tx: &[u8], rx: &[u8], buffer: &[u8]) -> [u32; 14] {
+pub fn row(begun: [u32; 8], end: End, tx: &[u8], rx: &[u8], buffer: &[u8]) -> [u32; 14]
+    ensures { λ r. ⌜ r ≡ rowOf begun (endOf end) (now (tx .entry)) (now (rx .entry)) (now (buffer .entry)) ⌝ }
+{
     let sent = end.sent;
     let held = end.held;
     [

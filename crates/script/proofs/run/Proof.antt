@@ -1,4 +1,6 @@
+use mathlib.Core.Path.{sym, _∙_}
 use native.Mathlib.Omega.{arith}
+use Rattle.script.proofs.FirstRecord.{script-begins}
 use borrow.Author.Needs.{needs}
 use Rattle.script.proofs.run.Statement.{statement}
 use Rattle.script.proofs.run.Tie as tie
@@ -23,10 +25,10 @@ open-requires c κs = search needs
 
 run-records-requires : tie.Need-run-records-requires
 run-records-requires c κs =
-    let o = c .before .before .before .before .before .before .before .before .before .before .before .before in
+    let o = c .before .before .before .before .before .before in
     let k = o .«open» .kept in
     let long = o .before .before .before .before .before .if1 .left in
-    (rw (o .before .before .before .before .before .before .before .opening2 .given .1) at (o .before .before .before .before .before .before .before .before .before .opening .ensures), omega arith)
+    (script-begins _ _ (sym (o .before .before .before .before .before .before .before .before .before .opening .ensures) ∙ o .before .before .before .before .before .before .before .opening2 .given .1), omega arith)
 
 same-length : tie.Need-same-length
 same-length c = search needs

@@ -1,9 +1,9 @@
 use Prim.Native.Nat.{_+_, _-_, _^_, _≤_, _<_}
-use mathlib.Core.Path.{_≡_}
+use mathlib.Core.Path.{_≡_, sym, _∙_}
 use native.Mathlib.Omega.{arith}
+use lib.ListN.{length, take, drop}
 use denote.Ref.{now}
-use lib.ListN.{length}
-use Rattle.script.proofs.Memory.{record-inside}
+use Rattle.script.proofs.FirstRecord.{Found, record-found, record-inside, body-length}
 use borrow.Author.Needs.{needs}
 use Rattle.script.proofs.run_records.Statement.{statement}
 use Rattle.script.proofs.run_records.Tie as tie
@@ -15,12 +15,15 @@ Inv-loop script tx₀ rx₀ buffer₀ out₀ left₀ at₀ written₀ tx rx buff
 abbrev μ-loop : tie.MeasureT-loop
 μ-loop script tx₀ rx₀ buffer₀ out₀ left₀ at₀ written₀ tx rx buffer out left at written = length out - written
 
--- the record lies in the script
-fits : (c : tie.After-kind Inv-loop μ-loop) → let l = c .before .before .before .before .before .loop in
-    l .at + (c .kind .given .0 .1 .0 + 3) ≤ length (now (c .before .before .before .before .before .before .before .before .before .before .before .args .script))
+-- the record lies in the script, and the format has it
+found : (c : tie.After-kind Inv-loop μ-loop) → let l = c .before .before .before .before .before .loop in let s = now (c .before .before .before .before .before .before .before .before .before .before .before .args .script) in
+    Found (take (length s - l .at) (drop (l .at) s)) (c .kind .given .0 .0) (c .kind .given .0 .1 .0)
+found c = record-found _ _ _ (sym (c .before .before .first-record .ensures) ∙ c .kind .given .1)
+
+fits : (c : tie.After-kind Inv-loop μ-loop) → let l = c .before .before .before .before .before .loop in l .at + (c .kind .given .0 .1 .0 + 3) ≤ length (now (c .before .before .before .before .before .before .before .before .before .before .before .args .script))
 fits c =
     let l = c .before .before .before .before .before .loop in
-    record-inside (now (c .before .before .before .before .before .before .before .before .before .before .before .args .script)) (l .at) (c .kind .given .0 .1 .0) (l .inv .0) (rw (c .kind .given .1) at (c .before .before .first-record .ensures))
+    record-inside (now (c .before .before .before .before .before .before .before .before .before .before .before .args .script)) (l .at) (c .kind .given .0 .1 .0) (l .inv .0) (found c .inside)
 
 loop-holds : tie.Need-loop-holds Inv-loop μ-loop
 loop-holds c = search needs
@@ -74,37 +77,41 @@ part-run-record-start : tie.Need-part-run-record-start Inv-loop μ-loop
 part-run-record-start c = search needs
 
 part-run-record-end : tie.Need-part-run-record-end Inv-loop μ-loop
-part-run-record-end c = omega (arith, fits (c .before .before .before))
+part-run-record-end c = omega (arith, fits (c .before))
 
 run-record-requires : tie.Need-run-record-requires Inv-loop μ-loop
-run-record-requires c κs = search needs
+run-record-requires c κs =
+    let k = c .before .before .before .before .before .before in
+    let l = c .before .before .before .before .before .before .before .before .before .before .before .loop in
+    let t = c .before .before .before .before .before .before .before .before .before .before .loop-test .taken in
+    (rw (body-length (now (c .before .before .before .before .before .before .before .before .before .before .before .before .before .before .before .before .before .args .script)) (l .at + 3) (k .kind .given .0 .1 .0) (omega (arith, fits k))) (found k .body), omega arith)
 
 add-written : tie.Need-add-written Inv-loop μ-loop
 add-written c =
     let r = c .before .before .before .before .before .before .before .before in
     let k = r .run-record .kept in
-    let l = r .before .before .before .before .before .before .before .before .before .before .before .before .before .before .loop in
+    let l = r .before .before .before .before .before .before .before .before .before .before .before .before .loop in
     let i = l .inv in
-    let t = r .before .before .before .before .before .before .before .before .before .before .before .before .before .loop-test .taken in
+    let t = r .before .before .before .before .before .before .before .before .before .before .before .loop-test .taken in
     omega arith
 
 loop-less : tie.Need-loop-less Inv-loop μ-loop
 loop-less c =
     let r = c .before .before .before .before .before .before .before .before in
     let k = r .run-record .kept in
-    let l = r .before .before .before .before .before .before .before .before .before .before .before .before .before .before .loop in
+    let l = r .before .before .before .before .before .before .before .before .before .before .before .before .loop in
     let i = l .inv in
-    let t = r .before .before .before .before .before .before .before .before .before .before .before .before .before .loop-test .taken in
+    let t = r .before .before .before .before .before .before .before .before .before .before .before .loop-test .taken in
     omega arith
 
 loop-again : tie.Need-loop-again Inv-loop μ-loop
 loop-again c =
     let r = c .before .before .before .before .before .before .before .before in
     let k = r .run-record .kept in
-    let l = r .before .before .before .before .before .before .before .before .before .before .before .before .before .before .loop in
+    let l = r .before .before .before .before .before .before .before .before .before .before .before .before .loop in
     let i = l .inv in
-    let t = r .before .before .before .before .before .before .before .before .before .before .before .before .before .loop-test .taken in
-    let f = fits (r .before .before .before .before .before .before .before .before .before) in
+    let t = r .before .before .before .before .before .before .before .before .before .before .before .loop-test .taken in
+    let f = fits (r .before .before .before .before .before .before .before) in
     (omega arith, omega arith, omega arith, omega arith, omega arith, omega arith, omega arith)
 
 same-length-5 : tie.Need-same-length-5 Inv-loop μ-loop

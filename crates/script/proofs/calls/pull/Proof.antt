@@ -1,5 +1,7 @@
+use denote.Ref.{now}
+use Rattle.link.specs.Answers.{endOf}
+use Rattle.script.proofs.Memory.{length-first, pulled-as}
 use borrow.Author.Needs.{needs}
-use Rattle.script.proofs.Memory.{length-first}
 use Rattle.script.proofs.calls.pull.Statement.{statement}
 use Rattle.script.proofs.calls.pull.Tie as tie
 
@@ -25,7 +27,9 @@ same-length-2 : tie.Need-same-length-2
 same-length-2 c = search needs
 
 returns : tie.Need-returns
-returns c = search needs
+returns c =
+    let a = c .before .before .before .before .before .before .before .before .before .before .before .args in
+    pulled-as (endOf (a .end)) (now (a .rx)) (now (a .buffer)) (a .n) _ (c .before .before .before .before .before .before .before .before .least .ensures .0) (c .of-ring-call .ensures) (c .before .before .before .before .before .pull .ensures .0)
 
 pub pull-spec : {M : Type 1} → statement M
 pull-spec =

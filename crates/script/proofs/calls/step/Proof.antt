@@ -1,28 +1,27 @@
+use native.Mathlib.Omega.{arith}
+use lib.ListN.{length}
+use denote.Ref.{now}
+use Rattle.link.specs.Answers.{endOf}
+use Rattle.script.proofs.CallKinds.{body-32, body-33, body-34}
+use Rattle.script.proofs.Memory.{length-first, writes-rx, writes-tx, lends, calls}
 use borrow.Author.Needs.{needs}
-use Rattle.script.proofs.Memory.{length-first}
 use Rattle.script.proofs.calls.step.Statement.{statement}
 use Rattle.script.proofs.calls.step.Tie as tie
-use Rattle.script.proofs.calls.step.Reads as reads
-use Rattle.script.proofs.calls.step.Lts as lts
-use Rattle.script.proofs.calls.call.Reads as call-reads
-use Rattle.script.proofs.calls.write.Reads as write-reads
-use Rattle.script.proofs.records.number.Reads as number-reads
-use Rattle.wire.proofs.least.Reads as least-reads
 
-write-requires : tie.Need-write-requires
-write-requires c κs = search needs
+overwrite-requires : tie.Need-overwrite-requires
+overwrite-requires c κs = body-32 (c .before .before .before .before .before .before .args .kind) (length (now (c .before .before .before .before .before .before .args .body))) (c .before .before .before .before .before .before .pre) (c .before .match .keys1)
 
-write-requires-2 : tie.Need-write-requires-2
-write-requires-2 c κs = search needs
+overwrite-requires-2 : tie.Need-overwrite-requires-2
+overwrite-requires-2 c κs = body-33 (c .before .before .before .before .before .before .args .kind) (length (now (c .before .before .before .before .before .before .args .body))) (c .before .before .before .before .before .before .pre) (c .before .match .keys2)
 
-number-requires : tie.Need-number-requires
-number-requires c κs = search needs
+read-u32-requires : tie.Need-read-u32-requires
+read-u32-requires c κs = omega (arith, body-34 (c .before .before .before .before .before .args .kind) (length (now (c .before .before .before .before .before .args .body))) (c .before .before .before .before .before .pre) (c .match .keys3))
 
 cast-t24 : tie.Need-cast-t24
 cast-t24 c = search needs
 
-number-requires-2 : tie.Need-number-requires-2
-number-requires-2 c κs = search needs
+read-u32-requires-2 : tie.Need-read-u32-requires-2
+read-u32-requires-2 c κs = omega (arith, body-34 (c .before .before .before .before .before .before .args .kind) (length (now (c .before .before .before .before .before .before .args .body))) (c .before .before .before .before .before .before .pre) (c .before .match .keys3))
 
 cast-t26 : tie.Need-cast-t26
 cast-t26 c = search needs
@@ -46,22 +45,28 @@ slice-aggregate-call-2 : tie.Need-slice-aggregate-call-2
 slice-aggregate-call-2 c = length-first _ _ (c .before .before .least2 .ensures .2)
 
 call-requires : tie.Need-call-requires
-call-requires c κs = search needs
+call-requires c κs = let r = c .before .before .before .before .before .match .rest in record { body = c .before .before .before .before .before .before .before .before .before .before .pre; not32 = r .0 .0 .1; not33 = r .0 .1; not34 = r .1 }
 
 same-length : tie.Need-same-length
 same-length c = search needs
 
 returns : tie.Need-returns
-returns c = search needs
+returns c =
+    let a = c .before .before .before .before .before .before .before .before .before .args in
+    writes-rx (endOf (a .end)) (a .lent .tx) (a .lent .rx) (now (a .body)) (now (a .tx)) (now (a .rx)) (now (a .buffer)) (a .kind) (c .before .before .before .before .match .keys1)
 
 same-length-2 : tie.Need-same-length-2
 same-length-2 c = search needs
 
 returns-2 : tie.Need-returns-2
-returns-2 c = search needs
+returns-2 c =
+    let a = c .before .before .before .before .before .before .before .before .before .args in
+    writes-tx (endOf (a .end)) (a .lent .tx) (a .lent .rx) (now (a .body)) (now (a .tx)) (now (a .rx)) (now (a .buffer)) (a .kind) (c .before .before .before .before .match .keys2)
 
 returns-3 : tie.Need-returns-3
-returns-3 c = search needs
+returns-3 c =
+    let a = c .before .before .before .before .before .before .before .args in
+    lends (endOf (a .end)) (a .lent .tx) (a .lent .rx) (now (a .body)) (now (a .tx)) (now (a .rx)) (now (a .buffer)) (a .kind) _ _ (c .before .read-u32 .ensures) (c .read-u322 .ensures) (c .before .before .match .keys3)
 
 same-length-3 : tie.Need-same-length-3
 same-length-3 c = search needs
@@ -73,17 +78,20 @@ same-length-5 : tie.Need-same-length-5
 same-length-5 c = search needs
 
 returns-4 : tie.Need-returns-4
-returns-4 c = search needs
+returns-4 c =
+    let a = c .before .before .before .before .before .before .before .before .before .before .before .before .before .before .before .before .before .before .before .args in
+    let r = c .before .before .before .before .before .before .before .before .before .before .before .before .before .before .match .rest in
+    calls (endOf (a .end)) (a .lent .tx) (a .lent .rx) (now (a .body)) (now (a .tx)) (now (a .rx)) (now (a .buffer)) (a .kind) _ _ (c .before .before .before .before .before .before .before .before .before .before .before .before .before .least .ensures .0) (c .before .before .before .before .before .before .before .before .before .before .before .before .least2 .ensures .0) (r .0 .0 .1) (r .0 .1) (r .1) (c .before .before .before .before .before .before .before .before .call .ensures)
 
 pub step-spec : {M : Type 1} → statement M
 step-spec =
     tie.close
     (tie.spec
-    write-requires
-    write-requires-2
-    number-requires
+    overwrite-requires
+    overwrite-requires-2
+    read-u32-requires
     cast-t24
-    number-requires-2
+    read-u32-requires-2
     cast-t26
     least-requires
     least-requires-2
