@@ -1,7 +1,7 @@
 /* Petrelknob's call script: one end of a link, driven by bytes (docs/SCRIPT.md has the format).
  *
  * Link with libscript.a (make library). It is for tests and measurements: a script opens an end, makes calls on it, and gets a row
- * of 14 numbers for each. The function is proved as those of petrelknob.h are, and slices are as there.
+ * of 14 numbers for each. The function is proved to be safe and to end for any bytes; slices are as in petrelknob.h.
  */
 #ifndef PETRELKNOB_SCRIPT_H
 #define PETRELKNOB_SCRIPT_H
