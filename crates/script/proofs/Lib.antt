@@ -3,3 +3,4 @@ pub mod Sums
 pub mod FirstRecord
 pub mod CallKinds
 pub mod Memory
+pub mod RowByRow

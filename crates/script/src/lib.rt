@@ -6,9 +6,9 @@ mod rows;
 ghost use mathlib.Core.Bool.{true};
 ghost use mathlib.Core.Path.{_≡_};
 ghost use Prim.Native.Nat.{_+_, _≤_};
-ghost use lib.ListN.{length};
+ghost use lib.ListN.{length, drop};
 ghost use Rattle.script.specs.Records.{has};
-ghost use Rattle.script.specs.Script.{openingStep, withRow, IsLeft, leftStep};
+ghost use Rattle.script.specs.Script.{openingStep, withRow, RowsFrom, Runs, IsLeft, leftStep};
 use calls::Lent;
 use icbmsg::Opening;
 use link::End;
@@ -76,7 +76,8 @@ fn run_records(
     out: &mut [u8],
 ) -> usize
     requires { ⌜ (22 ≤ length (now script)) × (56 ≤ length (now out)) ⌝ }
-    ensures { λ r. ⌜ r ≤ length (now (out .entry)) ⌝ }
+    ensures rows { λ r. ⌜ RowsFrom (drop 22 (now (script .entry))) 56 opened (now (tx .entry)) (now (rx .entry)) (now (buffer .entry)) (now (out .entry)) r (now (out .exit)) ⌝ }
+    ensures fits { λ r. ⌜ r ≤ length (now (out .entry)) ⌝ }
 {
     let mut left = opened;
     let mut at = records::OPENING;
@@ -96,7 +97,8 @@ fn run_records(
 // Opens an end and runs the records on it. Writes a row of 14 numbers to `out` for the opening and for each record, and answers how many
 // bytes it wrote. Stops before a record that is not whole, that the format does not have, or whose row does not fit.
 pub fn run(script: &[u8], tx: &mut [u8], rx: &mut [u8], buffer: &mut [u8], out: &mut [u8]) -> usize
-    ensures { λ r. ⌜ r ≤ length (now (out .entry)) ⌝ }
+    ensures run { λ r. ⌜ Runs (now (script .entry)) (now (tx .entry)) (now (rx .entry)) (now (buffer .entry)) (now (out .entry)) r (now (out .exit)) ⌝ }
+    ensures fits { λ r. ⌜ r ≤ length (now (out .entry)) ⌝ }
 {
     let Begun::Opening(opening) = records::opening(script) else {
         return 0;
@@ -117,7 +119,8 @@ pub extern "C" fn petrelknob_script(
     buffer: &mut [u8],
     out: &mut [u8],
 ) -> usize
-    ensures { λ r. ⌜ r ≤ length (now (out .entry)) ⌝ }
+    ensures run { λ r. ⌜ Runs (now (script .entry)) (now (tx .entry)) (now (rx .entry)) (now (buffer .entry)) (now (out .entry)) r (now (out .exit)) ⌝ }
+    ensures fits { λ r. ⌜ r ≤ length (now (out .entry)) ⌝ }
 {
     run(script, tx, rx, buffer, out)
 }

@@ -1,5 +1,8 @@
 use mathlib.Core.Path.{sym, _∙_}
 use native.Mathlib.Omega.{arith}
+use denote.Ref.{now}
+use Rattle.script.specs.Script.{short, narrow}
+use Rattle.script.proofs.RowByRow.{opening-row}
 use Rattle.script.proofs.FirstRecord.{script-begins}
 use borrow.Author.Needs.{needs}
 use Rattle.script.proofs.run.Statement.{statement}
@@ -15,10 +18,10 @@ enum-told : tie.Need-enum-told
 enum-told c = search needs
 
 returns : tie.Need-returns
-returns c = search needs
+returns c = (short (sym (c .before .before .opening .ensures) ∙ c .enum-told .given .1), search needs)
 
 returns-2 : tie.Need-returns-2
-returns-2 c = search needs
+returns-2 c = (narrow (c .if1 .taken), search needs)
 
 open-requires : tie.Need-open-requires
 open-requires c κs = search needs
@@ -43,7 +46,13 @@ same-length-4 : tie.Need-same-length-4
 same-length-4 c = search needs
 
 returns-3 : tie.Need-returns-3
-returns-3 c = search needs
+returns-3 c =
+    let r = c .before .before .before .before .before .before .before .before in
+    let o = c .before .before .before .before .before .before .before .before .before .before .before .before .before .before .before in
+    let a = c .before .before .before .before .before .before .before .before .before .before .before .before .before .before .before .before .before .before .before .before .before .before .before .before .before .before .before .before .before .before .args in
+    let k = o .«open» .kept in
+    let f = r .run-records .ensures .1 in
+    (opening-row (now (a .script)) (now (a .tx)) (now (a .rx)) (now (a .buffer)) (now (a .out)) _ _ (o .«open» .result) _ _ (o .«open» .ensures .0) (o .«open» .ensures .1) (sym (o .before .before .before .before .before .before .before .before .before .opening .ensures) ∙ o .before .before .before .before .before .before .before .opening2 .given .1) (o .before .before .before .before .before .if1 .left) (r .run-records .ensures .0), omega arith)
 
 pub run-spec : {M : Type 1} → statement M
 run-spec =

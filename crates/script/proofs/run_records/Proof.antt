@@ -1,8 +1,12 @@
-use Prim.Native.Nat.{_+_, _-_, _^_, _≤_, _<_}
-use mathlib.Core.Path.{_≡_, sym, _∙_}
+use Prim.Native.Nat.{ℕ, _+_, _-_, _^_, _≤_, _<_}
+use mathlib.Core.Path.{_≡_, sym, ap, _∙_}
+use mathlib.Core.List.{List}
 use native.Mathlib.Omega.{arith}
 use lib.ListN.{length, take, drop}
 use denote.Ref.{now}
+use Rattle.script.specs.Records.{firstRecord}
+use Rattle.script.specs.Script.{full, stops, RowsFrom}
+use Rattle.script.proofs.RowByRow.{whole-rest, one-row}
 use Rattle.script.proofs.FirstRecord.{Found, record-found, record-inside, body-length}
 use borrow.Author.Needs.{needs}
 use Rattle.script.proofs.run_records.Statement.{statement}
@@ -10,7 +14,8 @@ use Rattle.script.proofs.run_records.Tie as tie
 
 abbrev Inv-loop : tie.InvT-loop
 Inv-loop script tx₀ rx₀ buffer₀ out₀ left₀ at₀ written₀ tx rx buffer out left at written =
-    (at ≤ length script) × (written ≤ length out) × (length tx ≡ length tx₀) × (length rx ≡ length rx₀) × (length buffer ≡ length buffer₀) × (length out ≡ length out₀) × (length out < 2 ^ 64)
+    ((w′ : ℕ) (out′ : List ℕ) → RowsFrom (drop at script) written left tx rx buffer out w′ out′ → RowsFrom (drop 22 script) 56 left₀ tx₀ rx₀ buffer₀ out₀ w′ out′)
+    × (at ≤ length script) × (written ≤ length out) × (length tx ≡ length tx₀) × (length rx ≡ length rx₀) × (length buffer ≡ length buffer₀) × (length out ≡ length out₀) × (length out < 2 ^ 64)
 
 abbrev μ-loop : tie.MeasureT-loop
 μ-loop script tx₀ rx₀ buffer₀ out₀ left₀ at₀ written₀ tx rx buffer out left at written = length out - written
@@ -23,10 +28,10 @@ found c = record-found _ _ _ (sym (c .before .before .first-record .ensures) ∙
 fits : (c : tie.After-kind Inv-loop μ-loop) → let l = c .before .before .before .before .before .loop in l .at + (c .kind .given .0 .1 .0 + 3) ≤ length (now (c .before .before .before .before .before .before .before .before .before .before .before .args .script))
 fits c =
     let l = c .before .before .before .before .before .loop in
-    record-inside (now (c .before .before .before .before .before .before .before .before .before .before .before .args .script)) (l .at) (c .kind .given .0 .1 .0) (l .inv .0) (found c .inside)
+    record-inside (now (c .before .before .before .before .before .before .before .before .before .before .before .args .script)) (l .at) (c .kind .given .0 .1 .0) (l .inv .1) (found c .inside)
 
 loop-holds : tie.Need-loop-holds Inv-loop μ-loop
-loop-holds c = search needs
+loop-holds c = ((λ w o h. h), search needs, search needs, search needs, search needs, search needs, search needs, search needs)
 
 sub-loop : tie.Need-sub-loop Inv-loop μ-loop
 sub-loop c = search needs
@@ -62,7 +67,10 @@ same-length-4 : tie.Need-same-length-4 Inv-loop μ-loop
 same-length-4 c = search needs
 
 returns : tie.Need-returns Inv-loop μ-loop
-returns c = search needs
+returns c =
+    let l = c .before .before .before .before .before .loop in
+    let e = whole-rest (now (c .before .before .before .before .before .before .before .before .before .before .before .args .script)) (l .at) in
+    (l .inv .0 (l .written) (l .out) (stops (ap firstRecord (sym e) ∙ sym (c .before .before .first-record .ensures) ∙ c .enum-told .given .1)), search needs)
 
 add-begin : tie.Need-add-begin Inv-loop μ-loop
 add-begin c = search needs
@@ -112,7 +120,9 @@ loop-again c =
     let i = l .inv in
     let t = r .before .before .before .before .before .before .before .before .before .before .before .loop-test .taken in
     let f = fits (r .before .before .before .before .before .before .before) in
-    (omega arith, omega arith, omega arith, omega arith, omega arith, omega arith, omega arith)
+    let s = now (c .before .before .before .before .before .before .before .before .before .before .before .before .before .before .before .before .before .before .before .before .before .before .before .before .before .before .args .script) in
+    let n = r .before .before .before .before .before .before .before in
+    ((λ w o h. l .inv .0 w o (one-row s (l .at) (n .kind .given .0 .0) (n .kind .given .0 .1 .0) (l .written) (l .left) (r .run-record .result) (l .tx) (l .rx) (l .buffer) (l .out) _ _ _ _ (sym (n .before .before .first-record .ensures) ∙ n .kind .given .1) (omega arith) (omega arith) (omega arith) (omega arith) (r .run-record .ensures .0) (r .run-record .ensures .1) w o h)), omega arith, omega arith, omega arith, omega arith, omega arith, omega arith, omega arith)
 
 same-length-5 : tie.Need-same-length-5 Inv-loop μ-loop
 same-length-5 c = search needs
@@ -127,7 +137,9 @@ same-length-8 : tie.Need-same-length-8 Inv-loop μ-loop
 same-length-8 c = search needs
 
 returns-2 : tie.Need-returns-2 Inv-loop μ-loop
-returns-2 c = search needs
+returns-2 c =
+    let l = c .before .loop in
+    (l .inv .0 (l .written) (l .out) (full (omega arith)), search needs)
 
 pub run-records-spec : {M : Type 1} → statement M
 run-records-spec =
