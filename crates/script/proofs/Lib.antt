@@ -3,4 +3,5 @@ pub mod Sums
 pub mod FirstRecord
 pub mod CallKinds
 pub mod Memory
+pub mod MemoryAfter
 pub mod RowByRow

@@ -5,8 +5,9 @@ use mathlib.Core.List.{List}
 use native.Mathlib.Omega.{arith}
 use lib.ListN.{length, take, drop, length-drop}
 use lib.Seq.{take-all, drop-drop}
+use Rattle.link.specs.Answers.{endOf}
 use Rattle.script.specs.Records.{begun, firstRecord}
-use Rattle.script.specs.Script.{openingStep, withRow, goes, Runs, runs, IsLeft, leftStep, RowsFrom}
+use Rattle.script.specs.Script.{openingStep, withRow, Result, goes, Runs, runs, IsLeft, leftStep, LeftLeaves, RowsFrom}
 use Rattle.icbmsg.specs.declared.Opening.{Opening}
 use Rattle.script.specs.declared.records.Begun.the-variants.{Opening as Begins}
 use Rattle.script.specs.declared.records.Next.the-variants.{Whole}
@@ -27,16 +28,15 @@ module _ (s : List ℕ) (p k l w : ℕ) (left left′ : Left) (tx rx buffer out 
   abbrev body : List ℕ
   body = take (p + 3 + l - (p + 3)) (drop (p + 3) s)
 
-  pub one-row : firstRecord (take (length s - p) (drop p s)) ≡ Whole k l → w + 56 ≤ length out →
-      length tx′ ≡ length tx → length rx′ ≡ length rx → length buffer′ ≡ length buffer →
+  pub one-row : firstRecord (take (length s - p) (drop p s)) ≡ Whole k l → w + 56 ≤ length out → LeftLeaves left k body tx rx buffer tx′ rx′ buffer′ →
       IsLeft left′ (leftStep left k body tx rx buffer) → out′ ≡ withRow out w (leftStep left k body tx rx buffer) tx′ rx′ buffer′ →
-      (w″ : ℕ) (out″ : List ℕ) → RowsFrom (drop (p + 3 + l) s) (w + 56) left′ tx′ rx′ buffer′ out′ w″ out″ → RowsFrom (drop p s) w left tx rx buffer out w″ out″
-  one-row f room a b c h o w″ out″ r =
-      goes {out = out} {w′ = w″} {out′ = out″} k l tx′ rx′ buffer′ (ap firstRecord (sym (whole-rest s p)) ∙ f) room a b c (leftStep left k body tx rx buffer)
+      (r : Result) → RowsFrom (drop (p + 3 + l) s) (w + 56) left′ tx′ rx′ buffer′ out′ r → RowsFrom (drop p s) w left tx rx buffer out r
+  one-row f room m h o r x =
+      goes {s = drop p s} {w = w} {e = endOf (left .end)} {n = left .lent .tx} {m = left .lent .rx} {tx = tx} {rx = rx} {buffer = buffer} {out = out} {r = r} k l tx′ rx′ buffer′ (ap firstRecord (sym (whole-rest s p)) ∙ f) room (rw (← (body-there s p l)) m) (leftStep left k body tx rx buffer)
       (ap (λ (x : List ℕ). leftStep left k x tx rx buffer) (body-there s p l))
-      (rw (← o, ← (h .end), ← (h .lentTx), ← (h .lentRx), ← (rest-there s p l)) r)
+      (rw (← o, ← (h .end), ← (h .lentTx), ← (h .lentRx), ← (rest-there s p l)) x)
 
 -- the row of the opening comes first
-pub opening-row : (s tx rx buffer out out₁ : List ℕ) (o : Opening) (left : Left) (w′ : ℕ) (out′ : List ℕ) → IsLeft left (openingStep o) → out₁ ≡ withRow out 0 (openingStep o) tx rx buffer →
-    begun s ≡ Begins o → 56 ≤ length out → RowsFrom (drop 22 s) 56 left tx rx buffer out₁ w′ out′ → Runs s tx rx buffer out w′ out′
-opening-row s tx rx buffer out out₁ o left w′ out′ h e b l r = runs {w′ = w′} {out′ = out′} o b l (rw (← e, ← (h .end), ← (h .lentTx), ← (h .lentRx)) r)
+pub opening-row : (s tx rx buffer out out₁ : List ℕ) (o : Opening) (left : Left) (r : Result) → IsLeft left (openingStep o) → out₁ ≡ withRow out 0 (openingStep o) tx rx buffer →
+    begun s ≡ Begins o → 56 ≤ length out → RowsFrom (drop 22 s) 56 left tx rx buffer out₁ r → Runs s tx rx buffer out r
+opening-row s tx rx buffer out out₁ o left r h e b l x = runs {r = r} o b l (rw (← e, ← (h .end), ← (h .lentTx), ← (h .lentRx)) x)

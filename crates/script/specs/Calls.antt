@@ -4,8 +4,9 @@ use mathlib.Core.Bool.{true, _||_}
 use mathlib.Core.Path.{_≡_}
 use mathlib.Core.List.{List, []}
 use lib.Dec.{eqb}
-use lib.ListN.{take}
+use lib.ListN.{length, take, drop as dropped}
 use Rattle.wire.specs.Choice.{pick}
+use Rattle.wire.specs.Bytes.{straight, writes, wrote}
 use Rattle.icbmsg.specs.Outcome.{Outcome}
 use Rattle.icbmsg.specs.Calls.{Call, start, push, pull, reserve, room, send, drop, arrival, view, done, register, askRoom, askView, step}
 use Rattle.icbmsg.specs.End.{End}
@@ -55,7 +56,34 @@ recordStep k b e n m tx rx buffer =
     (pick (eqb k 34) (nothing e (numberAt 4 b 0) (numberAt 4 b 4))
     (called (callOutcome e k b (take n tx) (take m rx) buffer) n m))
 
+-- "offset (4), bytes": what the memory has of it changes
+abbrev pub overwritten : List ℕ → List ℕ → List ℕ
+overwritten l b = wrote l (writes (straight (numberAt 4 b 0)) (dropped 4 b))
+
+abbrev pub txAfter : ℕ → List ℕ → Outcome → List ℕ → List ℕ
+txAfter k b o tx = pick (eqb k 33) (overwritten tx b) (pick (eqb k 32 || eqb k 34) tx (wrote tx (o .tx)))
+
+abbrev pub rxAfter : ℕ → List ℕ → Outcome → List ℕ → List ℕ
+rxAfter k b o rx = pick (eqb k 32) (overwritten rx b) (pick (eqb k 33 || eqb k 34) rx (wrote rx (o .rx)))
+
+abbrev pub bufferAfter : ℕ → Outcome → List ℕ → List ℕ
+bufferAfter k o buffer = pick (eqb k 32 || (eqb k 33 || eqb k 34)) buffer (wrote buffer (o .buffer))
+
+-- What a record leaves of the memory, where its call has the outcome o. A room lends a part of the transmit bytes out for its caller to write:
+-- of those after it, it is said how many there are.
+pub record Leaves (k : ℕ) (b : List ℕ) (o : Outcome) (tx rx buffer tx′ rx′ buffer′ : List ℕ) : Type 0 where
+  pub transmit : (k ≡ 18 → ⊥) → tx′ ≡ txAfter k b o tx
+  pub as-many : length tx′ ≡ length tx
+  pub receive : rx′ ≡ rxAfter k b o rx
+  pub buffered : buffer′ ≡ bufferAfter k o buffer
+
 -- ---- what the code has, and answers
+
+-- the lent bytes are those of an outcome's writes; of the transmit bytes after a room nothing is said
+pub record Wrote (k : ℕ) (o : Outcome) (tx rx buffer tx′ rx′ buffer′ : List ℕ) : Type 0 where
+  pub transmit : (k ≡ 18 → ⊥) → tx′ ≡ wrote tx (o .tx)
+  pub receive : rx′ ≡ wrote rx (o .rx)
+  pub buffered : buffer′ ≡ wrote buffer (o .buffer)
 
 -- a record that is a call, with a body of n bytes
 pub record IsCall (k n : ℕ) : Type 0 where

@@ -5,6 +5,7 @@ ghost use mathlib.Core.List.{[]};
 ghost use Prim.Native.Nat.{_+_, _≤_};
 ghost use lib.Dec.{eqb};
 ghost use lib.ListN.{length, take};
+ghost use Rattle.wire.specs.Bytes.{wrote};
 ghost use Rattle.wire.specs.Choice.{pick};
 ghost use Rattle.icbmsg.specs.Ends.{blockAt};
 ghost use Rattle.icbmsg.specs.Messages.{roomOf, viewOf};
@@ -12,7 +13,7 @@ ghost use Rattle.icbmsg.specs.Calls.{step as stepRule, pull as pullCall};
 ghost use Rattle.link.specs.Answers.{answerNumber, endOf, outcomeOf, ringOutcomeOf};
 ghost use Rattle.script.specs.Rows.{reply, replyOf};
 ghost use Rattle.script.specs.Records.{has};
-ghost use Rattle.script.specs.Calls.{IsCall, RanAs, callOutcome, recordStep, stepOf};
+ghost use Rattle.script.specs.Calls.{IsCall, RanAs, Wrote, callOutcome, overwritten, Leaves, recordStep, stepOf};
 use crate::rows;
 use icbmsg::Region;
 use link::Answer;
@@ -91,7 +92,9 @@ fn view(end: End, rx: &[u8], start: u32) -> [u32; 8]
 
 // Takes a packet off the receive ring, into the first n bytes of the buffer.
 fn pull(end: End, rx: &mut [u8], buffer: &mut [u8], n: u32) -> Ran
-    ensures { λ r. ⌜ RanAs r (stepRule (endOf end) (pullCall (now (rx .entry)) (take n (now (buffer .entry))))) ⌝ }
+    ensures answer { λ r. ⌜ RanAs r (stepRule (endOf end) (pullCall (now (rx .entry)) (take n (now (buffer .entry))))) ⌝ }
+    ensures rx { λ _. ⌜ now (rx .exit) ≡ wrote (now (rx .entry)) (stepRule (endOf end) (pullCall (now (rx .entry)) (take n (now (buffer .entry)))) .rx) ⌝ }
+    ensures buffer { λ _. ⌜ now (buffer .exit) ≡ wrote (now (buffer .entry)) (stepRule (endOf end) (pullCall (now (rx .entry)) (take n (now (buffer .entry)))) .buffer) ⌝ }
 {
     let lent = wire::least(n as usize, buffer.len());
     let pulled = end.pull(rx, &mut buffer[..lent]);
@@ -101,7 +104,8 @@ fn pull(end: End, rx: &mut [u8], buffer: &mut [u8], n: u32) -> Ran
 // The call of a record, with what it is lent.
 fn call(end: End, kind: u8, body: &[u8], tx: &mut [u8], rx: &mut [u8], buffer: &mut [u8]) -> Ran
     requires { ⌜ IsCall kind (length (now body)) ⌝ }
-    ensures { λ r. ⌜ RanAs r (callOutcome (endOf end) kind (now (body .entry)) (now (tx .entry)) (now (rx .entry)) (now (buffer .entry))) ⌝ }
+    ensures answer { λ r. ⌜ RanAs r (callOutcome (endOf end) kind (now (body .entry)) (now (tx .entry)) (now (rx .entry)) (now (buffer .entry))) ⌝ }
+    ensures memory { λ _. ⌜ Wrote kind (callOutcome (endOf end) kind (now (body .entry)) (now (tx .entry)) (now (rx .entry)) (now (buffer .entry))) (now (tx .entry)) (now (rx .entry)) (now (buffer .entry)) (now (tx .exit)) (now (rx .exit)) (now (buffer .exit)) ⌝ }
 {
     match kind {
         0 => of_call(end.arrival(rx, body)),
@@ -142,6 +146,7 @@ fn call(end: End, kind: u8, body: &[u8], tx: &mut [u8], rx: &mut [u8], buffer: &
 // Puts the bytes behind the offset in a record's body into the memory, as many as it has.
 fn overwrite(memory: &mut [u8], body: &[u8])
     requires { ⌜ 4 ≤ length (now body) ⌝ }
+    ensures { λ _. ⌜ now (memory .exit) ≡ overwritten (now (memory .entry)) (now (body .entry)) ⌝ }
 {
     let p = wire::read_u32(body, 0) as usize;
     if p < memory.len() {
@@ -161,7 +166,8 @@ pub fn step(
     buffer: &mut [u8],
 ) -> Stepped
     requires { ⌜ has kind (length (now body)) ≡ true ⌝ }
-    ensures { λ r. ⌜ stepOf r ≡ recordStep kind (now (body .entry)) (endOf end) (lent .tx) (lent .rx) (now (tx .entry)) (now (rx .entry)) (now (buffer .entry)) ⌝ }
+    ensures answer { λ r. ⌜ stepOf r ≡ recordStep kind (now (body .entry)) (endOf end) (lent .tx) (lent .rx) (now (tx .entry)) (now (rx .entry)) (now (buffer .entry)) ⌝ }
+    ensures memory { λ _. ⌜ Leaves kind (now (body .entry)) (callOutcome (endOf end) kind (now (body .entry)) (take (lent .tx) (now (tx .entry))) (take (lent .rx) (now (rx .entry))) (now (buffer .entry))) (now (tx .entry)) (now (rx .entry)) (now (buffer .entry)) (now (tx .exit)) (now (rx .exit)) (now (buffer .exit)) ⌝ }
 {
     match kind {
         32 => {

@@ -8,7 +8,7 @@ ghost use mathlib.Core.Path.{_≡_};
 ghost use Prim.Native.Nat.{_+_, _≤_};
 ghost use lib.ListN.{length, drop};
 ghost use Rattle.script.specs.Records.{has};
-ghost use Rattle.script.specs.Script.{openingStep, withRow, RowsFrom, Runs, IsLeft, leftStep};
+ghost use Rattle.script.specs.Script.{openingStep, withRow, result, RowsFrom, Runs, IsLeft, leftStep, LeftLeaves};
 use calls::Lent;
 use icbmsg::Opening;
 use link::End;
@@ -53,6 +53,7 @@ fn run_record(
 ) -> Left
     requires { ⌜ (has kind (length (now body)) ≡ true) × (p + 56 ≤ length (now out)) ⌝ }
     ensures left { λ r. ⌜ IsLeft r (leftStep left kind (now (body .entry)) (now (tx .entry)) (now (rx .entry)) (now (buffer .entry))) ⌝ }
+    ensures memory { λ _. ⌜ LeftLeaves left kind (now (body .entry)) (now (tx .entry)) (now (rx .entry)) (now (buffer .entry)) (now (tx .exit)) (now (rx .exit)) (now (buffer .exit)) ⌝ }
     ensures out { λ _. ⌜ now (out .exit) ≡ withRow (now (out .entry)) p (leftStep left kind (now (body .entry)) (now (tx .entry)) (now (rx .entry)) (now (buffer .entry))) (now (tx .exit)) (now (rx .exit)) (now (buffer .exit)) ⌝ }
 {
     let before = left.end;
@@ -76,7 +77,7 @@ fn run_records(
     out: &mut [u8],
 ) -> usize
     requires { ⌜ (22 ≤ length (now script)) × (56 ≤ length (now out)) ⌝ }
-    ensures rows { λ r. ⌜ RowsFrom (drop 22 (now (script .entry))) 56 opened (now (tx .entry)) (now (rx .entry)) (now (buffer .entry)) (now (out .entry)) r (now (out .exit)) ⌝ }
+    ensures rows { λ r. ⌜ RowsFrom (drop 22 (now (script .entry))) 56 opened (now (tx .entry)) (now (rx .entry)) (now (buffer .entry)) (now (out .entry)) (result r (now (out .exit)) (now (tx .exit)) (now (rx .exit)) (now (buffer .exit))) ⌝ }
     ensures fits { λ r. ⌜ r ≤ length (now (out .entry)) ⌝ }
 {
     let mut left = opened;
@@ -97,7 +98,7 @@ fn run_records(
 // Opens an end and runs the records on it. Writes a row of 14 numbers to `out` for the opening and for each record, and answers how many
 // bytes it wrote. Stops before a record that is not whole, that the format does not have, or whose row does not fit.
 pub fn run(script: &[u8], tx: &mut [u8], rx: &mut [u8], buffer: &mut [u8], out: &mut [u8]) -> usize
-    ensures run { λ r. ⌜ Runs (now (script .entry)) (now (tx .entry)) (now (rx .entry)) (now (buffer .entry)) (now (out .entry)) r (now (out .exit)) ⌝ }
+    ensures run { λ r. ⌜ Runs (now (script .entry)) (now (tx .entry)) (now (rx .entry)) (now (buffer .entry)) (now (out .entry)) (result r (now (out .exit)) (now (tx .exit)) (now (rx .exit)) (now (buffer .exit))) ⌝ }
     ensures fits { λ r. ⌜ r ≤ length (now (out .entry)) ⌝ }
 {
     let Begun::Opening(opening) = records::opening(script) else {
@@ -119,7 +120,7 @@ pub extern "C" fn petrelknob_script(
     buffer: &mut [u8],
     out: &mut [u8],
 ) -> usize
-    ensures run { λ r. ⌜ Runs (now (script .entry)) (now (tx .entry)) (now (rx .entry)) (now (buffer .entry)) (now (out .entry)) r (now (out .exit)) ⌝ }
+    ensures run { λ r. ⌜ Runs (now (script .entry)) (now (tx .entry)) (now (rx .entry)) (now (buffer .entry)) (now (out .entry)) (result r (now (out .exit)) (now (tx .exit)) (now (rx .exit)) (now (buffer .exit))) ⌝ }
     ensures fits { λ r. ⌜ r ≤ length (now (out .entry)) ⌝ }
 {
     run(script, tx, rx, buffer, out)

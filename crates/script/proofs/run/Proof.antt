@@ -52,7 +52,7 @@ returns-3 c =
     let a = c .before .before .before .before .before .before .before .before .before .before .before .before .before .before .before .before .before .before .before .before .before .before .before .before .before .before .before .before .before .before .args in
     let k = o .«open» .kept in
     let f = r .run-records .ensures .1 in
-    (opening-row (now (a .script)) (now (a .tx)) (now (a .rx)) (now (a .buffer)) (now (a .out)) _ _ (o .«open» .result) _ _ (o .«open» .ensures .0) (o .«open» .ensures .1) (sym (o .before .before .before .before .before .before .before .before .before .opening .ensures) ∙ o .before .before .before .before .before .before .before .opening2 .given .1) (o .before .before .before .before .before .if1 .left) (r .run-records .ensures .0), omega arith)
+    (opening-row (now (a .script)) (now (a .tx)) (now (a .rx)) (now (a .buffer)) (now (a .out)) _ _ (o .«open» .result) _ (o .«open» .ensures .0) (o .«open» .ensures .1) (sym (o .before .before .before .before .before .before .before .before .before .opening .ensures) ∙ o .before .before .before .before .before .before .before .opening2 .given .1) (o .before .before .before .before .before .if1 .left) (r .run-records .ensures .0), omega arith)
 
 pub run-spec : {M : Type 1} → statement M
 run-spec =

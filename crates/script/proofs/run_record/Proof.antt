@@ -34,8 +34,8 @@ same-length-4 c = search needs
 
 returns : tie.Need-returns
 returns c =
-    let h = c .before .before .before .before .before .before .before .before .before .before .before .before .before .before .before .before .before .before .step .ensures in
-    (record { end = ap (λ (d : Step). d .end) h; lentTx = ap (λ (d : Step). d .lentTx) h; lentRx = ap (λ (d : Step). d .lentRx) h }, rw (← h, ← (c .before .before .before .before .before .row .ensures)) (c .before .before .write-numbers .ensures))
+    let h = c .before .before .before .before .before .before .before .before .before .before .before .before .before .before .before .before .before .before .step .ensures .0 in
+    (record { end = ap (λ (d : Step). d .end) h; lentTx = ap (λ (d : Step). d .lentTx) h; lentRx = ap (λ (d : Step). d .lentRx) h }, (c .before .before .before .before .before .before .before .before .before .before .before .before .before .before .before .before .before .before .step .ensures .1, rw (← h, ← (c .before .before .before .before .before .row .ensures)) (c .before .before .write-numbers .ensures)))
 
 pub run-record-spec : {M : Type 1} → statement M
 run-record-spec =

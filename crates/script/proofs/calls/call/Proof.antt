@@ -1,4 +1,4 @@
-use mathlib.Core.Path.{sym, ap, _∙_}
+use mathlib.Core.Path.{refl, sym, ap, _∙_}
 use native.Mathlib.Omega.{arith}
 use lib.ListN.{length}
 use denote.Ref.{now}
@@ -6,6 +6,7 @@ use Rattle.icbmsg.specs.Outcome.{withoutWrites}
 use Rattle.link.specs.Answers.{endOf}
 use Rattle.script.specs.Calls.{IsCall}
 use Rattle.script.proofs.Places.{room-next, view-next}
+use Rattle.script.proofs.MemoryAfter.{quiet-as, sent-as, pulled-in, room-as, room-quiet, view-quiet, register-writes, send-writes, push-writes, start-writes, pull-writes}
 use Rattle.script.proofs.CallKinds.{same-outcome, but-for-writes, asked-as, kind-0, kind-1, kind-2, kind-3, kind-4, kind-5, kind-6, kind-16, kind-17, kind-18, kind-19, kind-20, kind-21, LastCall, body-2, body-3, body-4, body-5, body-17, body-18, body-19, body-20, body-21}
 use borrow.Author.Needs.{needs}
 use Rattle.script.proofs.calls.call.Statement.{statement}
@@ -152,7 +153,8 @@ same-length c = search needs
 returns : tie.Need-returns
 returns c =
     let a = c .before .before .before .before .before .before .before .before .args in
-    same-outcome (c .of-call .ensures) (c .before .arrival .ensures ∙ kind-0 (endOf (a .end)) (now (a .body)) (now (a .tx)) (now (a .rx)) (now (a .buffer)) (a .kind) (c .before .before .before .match .keys1))
+    let e = c .before .arrival .ensures ∙ kind-0 (endOf (a .end)) (now (a .body)) (now (a .tx)) (now (a .rx)) (now (a .buffer)) (a .kind) (c .before .before .before .match .keys1) in
+    (same-outcome (c .of-call .ensures) e, quiet-as (a .kind) e (now (a .tx)) (now (a .rx)) (now (a .buffer)) (refl, refl, refl))
 
 same-length-2 : tie.Need-same-length-2
 same-length-2 c = search needs
@@ -160,12 +162,15 @@ same-length-2 c = search needs
 returns-2 : tie.Need-returns-2
 returns-2 c =
     let a = c .before .before .before .before .before .before .before .before .before .before .args in
-    but-for-writes (c .of-call2 .ensures) (c .before .before .before .register .ensures .0 ∙ ap withoutWrites (kind-1 (endOf (a .end)) (now (a .body)) (now (a .tx)) (now (a .rx)) (now (a .buffer)) (a .kind) (c .before .before .before .before .before .match .keys2)))
+    let k = kind-1 (endOf (a .end)) (now (a .body)) (now (a .tx)) (now (a .rx)) (now (a .buffer)) (a .kind) (c .before .before .before .before .before .match .keys2) in
+    let f = c .before .before .before .register .ensures in
+    (but-for-writes (c .of-call2 .ensures) (f .0 ∙ ap withoutWrites k), sent-as (a .kind) k (now (a .tx)) (now (a .rx)) (now (a .buffer)) _ (f .1) (register-writes (endOf (a .end)) (now (a .tx)) (now (a .body))))
 
 returns-3 : tie.Need-returns-3
 returns-3 c =
     let a = c .before .before .before .before .before .before .before .before .args in
-    same-outcome (c .of-call3 .ensures) (c .before .reserve .ensures ∙ kind-2 (endOf (a .end)) (now (a .body)) (now (a .tx)) (now (a .rx)) (now (a .buffer)) (a .kind) _ (c .before .before .read-u32 .ensures) (c .before .before .before .match .keys3))
+    let e = c .before .reserve .ensures ∙ kind-2 (endOf (a .end)) (now (a .body)) (now (a .tx)) (now (a .rx)) (now (a .buffer)) (a .kind) _ (c .before .before .read-u32 .ensures) (c .before .before .before .match .keys3) in
+    (same-outcome (c .of-call3 .ensures) e, quiet-as (a .kind) e (now (a .tx)) (now (a .rx)) (now (a .buffer)) (refl, refl, refl))
 
 same-length-3 : tie.Need-same-length-3
 same-length-3 c = search needs
@@ -173,17 +178,21 @@ same-length-3 c = search needs
 returns-4 : tie.Need-returns-4
 returns-4 c =
     let a = c .before .before .before .before .before .before .before .before .before .before .before .before .before .args in
-    but-for-writes (c .of-call4 .ensures) (c .before .before .before .send .ensures .0 ∙ ap withoutWrites (kind-3 (endOf (a .end)) (now (a .body)) (now (a .tx)) (now (a .rx)) (now (a .buffer)) (a .kind) _ (c .before .before .before .before .before .before .read-u322 .ensures) _ (c .before .before .before .before .before .read-u323 .ensures) _ (c .before .before .before .before .read-u324 .ensures) (c .before .before .before .before .before .before .before .before .match .keys4)))
+    let k = kind-3 (endOf (a .end)) (now (a .body)) (now (a .tx)) (now (a .rx)) (now (a .buffer)) (a .kind) _ (c .before .before .before .before .before .before .read-u322 .ensures) _ (c .before .before .before .before .before .read-u323 .ensures) _ (c .before .before .before .before .read-u324 .ensures) (c .before .before .before .before .before .before .before .before .match .keys4) in
+    let f = c .before .before .before .send .ensures in
+    (but-for-writes (c .of-call4 .ensures) (f .0 ∙ ap withoutWrites k), sent-as (a .kind) k (now (a .tx)) (now (a .rx)) (now (a .buffer)) _ (f .1) (send-writes (endOf (a .end)) (now (a .tx)) _ _ _))
 
 returns-5 : tie.Need-returns-5
 returns-5 c =
     let a = c .before .before .before .before .before .before .before .before .args in
-    same-outcome (c .of-call5 .ensures) (c .before .drop .ensures ∙ kind-4 (endOf (a .end)) (now (a .body)) (now (a .tx)) (now (a .rx)) (now (a .buffer)) (a .kind) _ (c .before .before .read-u325 .ensures) (c .before .before .before .match .keys5))
+    let e = c .before .drop .ensures ∙ kind-4 (endOf (a .end)) (now (a .body)) (now (a .tx)) (now (a .rx)) (now (a .buffer)) (a .kind) _ (c .before .before .read-u325 .ensures) (c .before .before .before .match .keys5) in
+    (same-outcome (c .of-call5 .ensures) e, quiet-as (a .kind) e (now (a .tx)) (now (a .rx)) (now (a .buffer)) (refl, refl, refl))
 
 returns-6 : tie.Need-returns-6
 returns-6 c =
     let a = c .before .before .before .before .before .before .before .before .args in
-    same-outcome (c .of-call6 .ensures) (c .before .done .ensures ∙ kind-5 (endOf (a .end)) (now (a .body)) (now (a .tx)) (now (a .rx)) (now (a .buffer)) (a .kind) _ (c .before .before .read-u326 .ensures) (c .before .before .before .match .keys6))
+    let e = c .before .done .ensures ∙ kind-5 (endOf (a .end)) (now (a .body)) (now (a .tx)) (now (a .rx)) (now (a .buffer)) (a .kind) _ (c .before .before .read-u326 .ensures) (c .before .before .before .match .keys6) in
+    (same-outcome (c .of-call6 .ensures) e, quiet-as (a .kind) e (now (a .tx)) (now (a .rx)) (now (a .buffer)) (refl, refl, refl))
 
 same-length-4 : tie.Need-same-length-4
 same-length-4 c = search needs
@@ -191,7 +200,9 @@ same-length-4 c = search needs
 returns-7 : tie.Need-returns-7
 returns-7 c =
     let a = c .before .before .before .before .before .before .before .before .before .before .args in
-    but-for-writes (c .of-ring-call .ensures) (c .before .before .before .push .ensures .0 ∙ ap withoutWrites (kind-6 (endOf (a .end)) (now (a .body)) (now (a .tx)) (now (a .rx)) (now (a .buffer)) (a .kind) (c .before .before .before .before .before .match .keys7)))
+    let k = kind-6 (endOf (a .end)) (now (a .body)) (now (a .tx)) (now (a .rx)) (now (a .buffer)) (a .kind) (c .before .before .before .before .before .match .keys7) in
+    let f = c .before .before .before .push .ensures in
+    (but-for-writes (c .of-ring-call .ensures) (f .0 ∙ ap withoutWrites k), sent-as (a .kind) k (now (a .tx)) (now (a .rx)) (now (a .buffer)) _ (f .1) (push-writes (endOf (a .end)) (now (a .tx)) (now (a .body))))
 
 same-length-5 : tie.Need-same-length-5
 same-length-5 c = search needs
@@ -199,7 +210,9 @@ same-length-5 c = search needs
 returns-8 : tie.Need-returns-8
 returns-8 c =
     let a = c .before .before .before .before .before .before .before .before .before .before .args in
-    but-for-writes (c .of-ring-call2 .ensures) (c .before .before .before .start .ensures .0 ∙ ap withoutWrites (kind-16 (endOf (a .end)) (now (a .body)) (now (a .tx)) (now (a .rx)) (now (a .buffer)) (a .kind) (c .before .before .before .before .before .match .keys8)))
+    let k = kind-16 (endOf (a .end)) (now (a .body)) (now (a .tx)) (now (a .rx)) (now (a .buffer)) (a .kind) (c .before .before .before .before .before .match .keys8) in
+    let f = c .before .before .before .start .ensures in
+    (but-for-writes (c .of-ring-call2 .ensures) (f .0 ∙ ap withoutWrites k), sent-as (a .kind) k (now (a .tx)) (now (a .rx)) (now (a .buffer)) _ (f .1) (start-writes (endOf (a .end)) (now (a .tx))))
 
 same-length-6 : tie.Need-same-length-6
 same-length-6 c = search needs
@@ -210,7 +223,9 @@ same-length-7 c = search needs
 returns-9 : tie.Need-returns-9
 returns-9 c =
     let a = c .before .before .before .before .before .before .before .before .before .before .before .before .before .args in
-    same-outcome (c .before .before .before .before .pull .ensures) (kind-17 (endOf (a .end)) (now (a .body)) (now (a .tx)) (now (a .rx)) (now (a .buffer)) (a .kind) _ (c .before .before .before .before .before .read-u16 .ensures .0) (c .before .before .before .before .before .before .before .before .match .keys9))
+    let k = kind-17 (endOf (a .end)) (now (a .body)) (now (a .tx)) (now (a .rx)) (now (a .buffer)) (a .kind) _ (c .before .before .before .before .before .read-u16 .ensures .0) (c .before .before .before .before .before .before .before .before .match .keys9) in
+    let f = c .before .before .before .before .pull .ensures in
+    (same-outcome (f .0) k, pulled-in (a .kind) k (now (a .tx)) (now (a .rx)) (now (a .buffer)) _ _ (pull-writes (endOf (a .end)) (now (a .rx)) _) (f .1 .0) (f .1 .1))
 
 same-length-8 : tie.Need-same-length-8
 same-length-8 c = search needs
@@ -218,7 +233,9 @@ same-length-8 c = search needs
 returns-10 : tie.Need-returns-10
 returns-10 c =
     let a = c .before .before .before .before .before .before .before .before .before .before .args in
-    same-outcome (record { reply = c .before .before .room .ensures; end = sym (room-next (endOf (a .end)) _ _) }) (kind-18 (endOf (a .end)) (now (a .body)) (now (a .tx)) (now (a .rx)) (now (a .buffer)) (a .kind) _ (c .before .before .before .read-u327 .ensures) (c .before .before .before .before .before .match .keys10))
+    let z = c .before .before .before .before .before .match .keys10 in
+    let k = kind-18 (endOf (a .end)) (now (a .body)) (now (a .tx)) (now (a .rx)) (now (a .buffer)) (a .kind) _ (c .before .before .before .read-u327 .ensures) z in
+    (same-outcome (record { reply = c .before .before .room .ensures; end = sym (room-next (endOf (a .end)) _ _) }) k, room-as (a .kind) k (now (a .tx)) (now (a .rx)) (now (a .buffer)) _ z (room-quiet (endOf (a .end)) _ _))
 
 same-length-9 : tie.Need-same-length-9
 same-length-9 c = search needs
@@ -226,17 +243,20 @@ same-length-9 c = search needs
 returns-11 : tie.Need-returns-11
 returns-11 c =
     let a = c .before .before .before .before .before .before .before .before .args in
-    same-outcome (record { reply = c .view .ensures; end = sym (view-next (endOf (a .end)) _ _) }) (kind-19 (endOf (a .end)) (now (a .body)) (now (a .tx)) (now (a .rx)) (now (a .buffer)) (a .kind) _ (c .before .read-u328 .ensures) (c .before .before .before .match .keys11))
+    let k = kind-19 (endOf (a .end)) (now (a .body)) (now (a .tx)) (now (a .rx)) (now (a .buffer)) (a .kind) _ (c .before .read-u328 .ensures) (c .before .before .before .match .keys11) in
+    (same-outcome (record { reply = c .view .ensures; end = sym (view-next (endOf (a .end)) _ _) }) k, quiet-as (a .kind) k (now (a .tx)) (now (a .rx)) (now (a .buffer)) (view-quiet (endOf (a .end)) _ _))
 
 returns-12 : tie.Need-returns-12
 returns-12 c =
     let a = c .before .before .before .before .before .before .before .before .before .args in
-    same-outcome (asked-as (c .before .ask-room .result) (a .end) (c .answered .ensures)) (c .before .ask-room .ensures ∙ kind-20 (endOf (a .end)) (now (a .body)) (now (a .tx)) (now (a .rx)) (now (a .buffer)) (a .kind) _ (c .before .before .read-u3210 .ensures) _ (c .before .before .before .read-u329 .ensures) (c .before .before .before .before .match .keys12))
+    let e = c .before .ask-room .ensures ∙ kind-20 (endOf (a .end)) (now (a .body)) (now (a .tx)) (now (a .rx)) (now (a .buffer)) (a .kind) _ (c .before .before .read-u3210 .ensures) _ (c .before .before .before .read-u329 .ensures) (c .before .before .before .before .match .keys12) in
+    (same-outcome (asked-as (c .before .ask-room .result) (a .end) (c .answered .ensures)) e, quiet-as (a .kind) e (now (a .tx)) (now (a .rx)) (now (a .buffer)) (refl, refl, refl))
 
 returns-13 : tie.Need-returns-13
 returns-13 c =
     let a = c .before .before .before .before .before .before .before .before .before .args in
-    same-outcome (asked-as (c .before .ask-view .result) (a .end) (c .answered2 .ensures)) (c .before .ask-view .ensures ∙ kind-21 (endOf (a .end)) (now (a .body)) (now (a .tx)) (now (a .rx)) (now (a .buffer)) (a .kind) _ (c .before .before .read-u3212 .ensures) _ (c .before .before .before .read-u3211 .ensures) (last (c .before .before .before .before)))
+    let e = c .before .ask-view .ensures ∙ kind-21 (endOf (a .end)) (now (a .body)) (now (a .tx)) (now (a .rx)) (now (a .buffer)) (a .kind) _ (c .before .before .read-u3212 .ensures) _ (c .before .before .before .read-u3211 .ensures) (last (c .before .before .before .before)) in
+    (same-outcome (asked-as (c .before .ask-view .result) (a .end) (c .answered2 .ensures)) e, quiet-as (a .kind) e (now (a .tx)) (now (a .rx)) (now (a .buffer)) (refl, refl, refl))
 
 pub call-spec : {M : Type 1} → statement M
 call-spec =

@@ -1,6 +1,7 @@
 use denote.Ref.{now}
 use Rattle.link.specs.Answers.{endOf}
 use Rattle.script.proofs.Memory.{length-first, pulled-as}
+use Rattle.script.proofs.MemoryAfter.{pulled-bytes}
 use borrow.Author.Needs.{needs}
 use Rattle.script.proofs.calls.pull.Statement.{statement}
 use Rattle.script.proofs.calls.pull.Tie as tie
@@ -29,7 +30,9 @@ same-length-2 c = search needs
 returns : tie.Need-returns
 returns c =
     let a = c .before .before .before .before .before .before .before .before .before .before .before .args in
-    pulled-as (endOf (a .end)) (now (a .rx)) (now (a .buffer)) (a .n) _ (c .before .before .before .before .before .before .before .before .least .ensures .0) (c .of-ring-call .ensures) (c .before .before .before .before .before .pull .ensures .0)
+    let m = c .before .before .before .before .before .before .before .before .least .ensures .0 in
+    let p = c .before .before .before .before .before .pull in
+    (pulled-as (endOf (a .end)) (now (a .rx)) (now (a .buffer)) (a .n) _ m (c .of-ring-call .ensures) (p .ensures .0), pulled-bytes (endOf (a .end)) (now (a .rx)) (now (a .buffer)) (a .n) _ m _ _ (p .ensures .1 .0) (p .ensures .1 .1))
 
 pub pull-spec : {M : Type 1} → statement M
 pull-spec =

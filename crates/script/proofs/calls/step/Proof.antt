@@ -3,6 +3,7 @@ use lib.ListN.{length}
 use denote.Ref.{now}
 use Rattle.link.specs.Answers.{endOf}
 use Rattle.script.proofs.CallKinds.{body-32, body-33, body-34}
+use Rattle.script.proofs.MemoryAfter.{leaves-rx, leaves-tx, leaves-all, leaves-call}
 use Rattle.script.proofs.Memory.{length-first, writes-rx, writes-tx, lends, calls}
 use borrow.Author.Needs.{needs}
 use Rattle.script.proofs.calls.step.Statement.{statement}
@@ -53,7 +54,8 @@ same-length c = search needs
 returns : tie.Need-returns
 returns c =
     let a = c .before .before .before .before .before .before .before .before .before .args in
-    writes-rx (endOf (a .end)) (a .lent .tx) (a .lent .rx) (now (a .body)) (now (a .tx)) (now (a .rx)) (now (a .buffer)) (a .kind) (c .before .before .before .before .match .keys1)
+    let z = c .before .before .before .before .match .keys1 in
+    (writes-rx (endOf (a .end)) (a .lent .tx) (a .lent .rx) (now (a .body)) (now (a .tx)) (now (a .rx)) (now (a .buffer)) (a .kind) z, leaves-rx (a .kind) (now (a .body)) _ (now (a .tx)) (now (a .rx)) (now (a .buffer)) _ z (c .before .before .overwrite .ensures))
 
 same-length-2 : tie.Need-same-length-2
 same-length-2 c = search needs
@@ -61,12 +63,14 @@ same-length-2 c = search needs
 returns-2 : tie.Need-returns-2
 returns-2 c =
     let a = c .before .before .before .before .before .before .before .before .before .args in
-    writes-tx (endOf (a .end)) (a .lent .tx) (a .lent .rx) (now (a .body)) (now (a .tx)) (now (a .rx)) (now (a .buffer)) (a .kind) (c .before .before .before .before .match .keys2)
+    let z = c .before .before .before .before .match .keys2 in
+    (writes-tx (endOf (a .end)) (a .lent .tx) (a .lent .rx) (now (a .body)) (now (a .tx)) (now (a .rx)) (now (a .buffer)) (a .kind) z, leaves-tx (a .kind) (now (a .body)) _ (now (a .tx)) (now (a .rx)) (now (a .buffer)) _ z (search needs) (c .before .before .overwrite2 .ensures))
 
 returns-3 : tie.Need-returns-3
 returns-3 c =
     let a = c .before .before .before .before .before .before .before .args in
-    lends (endOf (a .end)) (a .lent .tx) (a .lent .rx) (now (a .body)) (now (a .tx)) (now (a .rx)) (now (a .buffer)) (a .kind) _ _ (c .before .read-u32 .ensures) (c .read-u322 .ensures) (c .before .before .match .keys3)
+    let z = c .before .before .match .keys3 in
+    (lends (endOf (a .end)) (a .lent .tx) (a .lent .rx) (now (a .body)) (now (a .tx)) (now (a .rx)) (now (a .buffer)) (a .kind) _ _ (c .before .read-u32 .ensures) (c .read-u322 .ensures) z, leaves-all (a .kind) (now (a .body)) _ (now (a .tx)) (now (a .rx)) (now (a .buffer)) z)
 
 same-length-3 : tie.Need-same-length-3
 same-length-3 c = search needs
@@ -81,7 +85,10 @@ returns-4 : tie.Need-returns-4
 returns-4 c =
     let a = c .before .before .before .before .before .before .before .before .before .before .before .before .before .before .before .before .before .before .before .args in
     let r = c .before .before .before .before .before .before .before .before .before .before .before .before .before .before .match .rest in
-    calls (endOf (a .end)) (a .lent .tx) (a .lent .rx) (now (a .body)) (now (a .tx)) (now (a .rx)) (now (a .buffer)) (a .kind) _ _ (c .before .before .before .before .before .before .before .before .before .before .before .before .before .least .ensures .0) (c .before .before .before .before .before .before .before .before .before .before .before .before .least2 .ensures .0) (r .0 .0 .1) (r .0 .1) (r .1) (c .before .before .before .before .before .before .before .before .call .ensures)
+    let i = c .before .before .before .before .before .before .before .before .before .before .before .before .before .least .ensures .0 in
+    let j = c .before .before .before .before .before .before .before .before .before .before .before .before .least2 .ensures .0 in
+    let f = c .before .before .before .before .before .before .before .before .call .ensures in
+    (calls (endOf (a .end)) (a .lent .tx) (a .lent .rx) (now (a .body)) (now (a .tx)) (now (a .rx)) (now (a .buffer)) (a .kind) _ _ i j (r .0 .0 .1) (r .0 .1) (r .1) (f .0), leaves-call (endOf (a .end)) (a .lent .tx) (a .lent .rx) (now (a .body)) (now (a .tx)) (now (a .rx)) (now (a .buffer)) (a .kind) _ _ i j (r .0 .0 .1) (r .0 .1) (r .1) _ _ _ (search needs) (f .1))
 
 pub step-spec : {M : Type 1} → statement M
 step-spec =
