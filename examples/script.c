@@ -84,6 +84,25 @@ static uint32_t number_at(const uint8_t *row, int at)
     return (uint32_t)b[0] | (uint32_t)b[1] << 8 | (uint32_t)b[2] << 16 | (uint32_t)b[3] << 24;
 }
 
+/* What is given with an answer, in words. */
+static const char *given(const uint8_t *row)
+{
+    switch (number_at(row, PETRELKNOB_ROW_GIVEN)) {
+    case PETRELKNOB_GIVEN_NOTHING:
+        return "nothing";
+    case PETRELKNOB_GIVEN_LENGTH:
+        return "length";
+    case PETRELKNOB_GIVEN_RUN:
+        return "run";
+    case PETRELKNOB_GIVEN_CONTROL:
+        return "control bytes";
+    case PETRELKNOB_GIVEN_DELIVERY:
+        return "delivery";
+    default:
+        return "unknown";
+    }
+}
+
 static void print_row(const char *text, const uint8_t *row)
 {
     uint32_t count = number_at(row, PETRELKNOB_ROW_VALUES);
@@ -96,7 +115,7 @@ static void print_row(const char *text, const uint8_t *row)
     if (size > 0)
         snprintf(answer + used, sizeof answer - used, " place %u, %u bytes",
                  (unsigned)number_at(row, PETRELKNOB_ROW_PLACE_BEGIN), (unsigned)size);
-    printf("%-28s %6u  %-22s %4u %2u\n", text, (unsigned)number_at(row, PETRELKNOB_ROW_NUMBER), answer,
+    printf("%-28s %6u   %-13s %-22s %4u %2u\n", text, (unsigned)number_at(row, PETRELKNOB_ROW_NUMBER), given(row), answer,
            (unsigned)number_at(row, PETRELKNOB_ROW_FREE_TX), (unsigned)number_at(row, PETRELKNOB_ROW_FREE_RX));
 }
 
@@ -108,7 +127,7 @@ int main(void)
     build();
     size_t written = petrelknob_script(script, script_length, tx, sizeof tx, rx, sizeof rx, buffer, sizeof buffer, rows, sizeof rows);
 
-    printf("%-28s %6s   %-21s %s\n", "record", "number", "values", "free blocks, tx rx");
+    printf("%-28s %6s   %-13s  %-21s %s\n", "record", "number", "given", "values", "free blocks, tx rx");
     for (size_t i = 0; i < label_count && (i + 1) * PETRELKNOB_ROW_BYTES <= written; i++)
         print_row(labels[i], rows + i * PETRELKNOB_ROW_BYTES);
     return written == label_count * PETRELKNOB_ROW_BYTES ? 0 : 1;

@@ -15,7 +15,7 @@
 extern "C" {
 #endif
 
-/* What a call returns: 0, or the number of the first check that failed. A refused call changes nothing. */
+/* What a call returns: 0, or the number of the first check that failed. A refused call changes no byte but those of its answer. */
 enum petrelknob_number {
     PETRELKNOB_ACCEPTED = 0,
     PETRELKNOB_BAD_ALIGNMENT = 1,   /* alignment is no power of two from 4 to 256 */

@@ -54,9 +54,18 @@ enum petrelknob_row_value {
     PETRELKNOB_ROW_SUM_TX = 10,     /* the sum of all bytes of tx, afterwards */
     PETRELKNOB_ROW_SUM_RX = 11,     /* the sum of all bytes of rx, afterwards */
     PETRELKNOB_ROW_SUM_BUFFER = 12, /* the sum of all bytes of buffer, afterwards */
-    PETRELKNOB_ROW_ZERO = 13,       /* always 0 */
+    PETRELKNOB_ROW_GIVEN = 13,      /* what is given with the answer, so what the values are: petrelknob_given */
     PETRELKNOB_ROW_NUMBERS = 14,
     PETRELKNOB_ROW_BYTES = 56
+};
+
+/* What is given with an answer. */
+enum petrelknob_given {
+    PETRELKNOB_GIVEN_NOTHING = 0, /* no values */
+    PETRELKNOB_GIVEN_LENGTH = 1,  /* of start, push and pull: the length, 0 where refused */
+    PETRELKNOB_GIVEN_RUN = 2,     /* of reserve: start, count */
+    PETRELKNOB_GIVEN_CONTROL = 3, /* of send, done, register and arrival: the three bytes to be pushed */
+    PETRELKNOB_GIVEN_DELIVERY = 4 /* of arrival, a data message: address, start, K */
 };
 
 /* Opens an end and runs a script's records on it.

@@ -74,6 +74,8 @@ faults! {
     RoundedOverlap,
     /// 5: touching regions are refused
     TouchingRefused,
+    /// An accepted opening gives a run
+    OpeningGivesRun,
 
     // Ring.
     /// 7: a partner's index need not be a multiple of 4
@@ -98,6 +100,8 @@ faults! {
     StartGoesOn,
     /// Start sets the own read index to 0
     StartReadsAgain,
+    /// A refused pull gives nothing, not the length 0
+    PullGivesNothing,
 
     // Control messages.
     /// 12: a control message of two bytes is taken
@@ -128,6 +132,8 @@ faults! {
     AnyAddressReleased,
     /// 25: kind 3 binds the address even if it is refused
     RefusedReleaseBinds,
+    /// Kind 0 gives control bytes, not a delivery
+    DataGivesControl,
 
     // Binding.
     /// 19: an initiator takes a binding
@@ -160,6 +166,10 @@ faults! {
     BoundHolds,
     /// Register leaves the blocks of the binding it takes in use
     TakenBindingHolds,
+    /// A register that waits gives control bytes
+    WaitingGivesControl,
+    /// Kind 2 of more than three bytes gives a delivery, not control bytes
+    LongBoundGivesDelivery,
 
     // Blocks.
     /// 25: a start is cut to a byte
@@ -182,10 +192,18 @@ faults! {
     ViewFromHeader,
     /// 25: a sent message has a room
     RoomOfSent,
+    /// A refused room writes a byte
+    RefusedRoomWrites,
+    /// A room writes the byte before its first one
+    RoomWritesBefore,
+    /// A room is cleared when it is lent
+    RoomCleared,
     /// 25: a sent message can be dropped
     DropOfSent,
     /// 25: a stored binding can be done with
     DoneOfStored,
+    /// Done gives a delivery, not control bytes
+    DoneGivesDelivery,
 
     // Scripts.
     /// A body longer than its kind has is taken

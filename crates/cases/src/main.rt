@@ -1,9 +1,9 @@
 // The bench case of 01 that no theorem holds: "An empty ring with 64 data bytes takes seven such packets; the eighth is 10."
 use icbmsg::Bounds;
 use icbmsg::Opening;
-use icmsg::RingAnswer;
 use lines::Line;
 use link::End;
+use link::PacketAnswer;
 
 // Bytes of a region whose ring minimum leaves 64 data bytes: 4 + 4 + 8 × (3 + 3 + 2), and three blocks of four bytes behind it.
 const REGION: u32 = 84;
@@ -23,13 +23,10 @@ fn opened() -> End {
     called.end
 }
 
-fn number_of(a: RingAnswer) -> u32 {
+fn number_of(a: PacketAnswer) -> u32 {
     match a {
-        RingAnswer::Accepted {
-            length: _,
-            index: _,
-        } => 0,
-        RingAnswer::Refused(x) => x.number(),
+        PacketAnswer::Length(_) => 0,
+        PacketAnswer::Refused(x) => x.number(),
     }
 }
 

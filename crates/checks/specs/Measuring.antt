@@ -6,6 +6,7 @@ use mathlib.Core.List.{List, [], _∷_}
 use lib.Dec.{leb, ltb}
 use Rattle.wire.specs.Choice.{check}
 use Rattle.refusal.specs.Numbers.{numberOf}
+use Rattle.region.specs.Layout.{maxBlocks, maxBytes}
 use Rattle.blocks.specs.Search.{all}
 use Rattle.blocks.specs.Tables.{blocksFor}
 use Rattle.blocks.specs.declared.Entry.{Entry}
@@ -16,7 +17,7 @@ use Rattle.checks.specs.declared.Measured.the-variants.{Refused, Fits}
 
 -- the region's blocks, at most 256 and of 4 bytes at least, lie in the n bytes that are lent
 abbrev pub areLent : ℕ → Region → Bool
-areLent n g = all (leb 4 (g .size) ∷ leb (g .count) 256 ∷ leb (g .blocks + g .count * g .size) n ∷ leb n 1048576 ∷ [])
+areLent n g = all (leb 4 (g .size) ∷ leb (g .count) maxBlocks ∷ leb (g .blocks + g .count * g .size) n ∷ leb n maxBytes ∷ [])
 
 -- 6, 16, 17, 18, for K bytes in block b of a region whose table is t
 abbrev pub placeNumber : ℕ → Region → List Entry → ℕ → ℕ → ℕ

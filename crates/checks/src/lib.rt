@@ -10,6 +10,13 @@ use icbmsg::Control;
 use icbmsg::Region;
 use refusal::Refusal;
 
+// The limits of an end's regions.
+const MAX_ALIGNMENT: u16 = region::MAX_ALIGNMENT as u16;
+
+const MAX_BYTES: usize = region::MAX_BYTES as usize;
+
+const MAX_BLOCKS: usize = region::MAX_BLOCKS as usize;
+
 // An arriving message, measured: its length and how many blocks it takes, or why it is refused.
 pub enum Measured {
     Refused(Refusal),
@@ -20,18 +27,19 @@ pub enum Measured {
 fn is_sound(a: u16, g: Region) -> bool
     ensures { λ r. ⌜ r ≡ all (soundRegion a g) ⌝ }
 {
-    let align = a as u64;
-    let base = g.base as u64;
-    let ring = g.ring as u64;
-    let blocks = g.blocks as u64;
-    let bytes = g.bytes as u64;
-    let size = g.size as u64;
-    let count = g.count as u64;
+    let align = a as usize;
+    let base = g.base as usize;
+    let ring = g.ring as usize;
+    let blocks = g.blocks as usize;
+    let bytes = g.bytes as usize;
+    let size = g.size as usize;
+    let count = g.count as usize;
     (32 <= ring)
         & ((ring % 4 == 0)
             & ((base + (align + 4) + ring <= blocks)
                 & ((blocks + count * size <= bytes)
-                    & ((bytes <= 1048576) & ((1 <= count) & ((count <= 256) & (4 <= size)))))))
+                    & ((bytes <= MAX_BYTES)
+                        & ((1 <= count) & ((count <= MAX_BLOCKS) & (4 <= size)))))))
 }
 
 // Whether the numbers are those of an open end. They come one by one, so that no call copies its end for this.
@@ -39,7 +47,7 @@ pub fn is_open(a: u16, tx: Region, rx: Region, write: u32, read: u32) -> bool
     ensures { λ r. ⌜ r ≡ openNumbers a tx rx write read ⌝ }
 {
     (4 <= a)
-        & ((a <= 256)
+        & ((a <= MAX_ALIGNMENT)
             & ((a % 4 == 0)
                 & (icmsg::in_rule(tx.ring, write)
                     & (icmsg::in_rule(rx.ring, read) & (is_sound(a, tx) & is_sound(a, rx))))))
@@ -76,11 +84,11 @@ fn are_lent(n: usize, g: Region) -> bool
     let size = g.size as usize;
     let count = g.count as usize;
     let blocks = g.blocks as usize;
-    (4 <= size) & ((count <= 256) & ((blocks + count * size <= n) & (n <= 1048576)))
+    (4 <= size) & ((count <= MAX_BLOCKS) & ((blocks + count * size <= n) & (n <= MAX_BYTES)))
 }
 
 // Measures the message in receive block b: checks 6, 16, 17 and 18. Its size is read here, and nowhere again.
-pub fn measure(rx: &[u8], g: Region, held: [Entry; 256], b: u8) -> Measured
+pub fn measure(rx: &[u8], g: Region, held: [Entry; blocks::BLOCKS], b: u8) -> Measured
     ensures number { λ r. ⌜ measuredNumber r ≡ placeNumber (length (now (rx .entry))) g held b (sizeAt g b (now (rx .entry))) ⌝ }
     ensures size { λ r. ⌜ MeasuredAs r g b (sizeAt g b (now (rx .entry))) ⌝ }
 {

@@ -3,12 +3,12 @@ ghost use Prim.Native.Nat.{_≤_};
 use endpoints::Stage;
 use icbmsg::Opening;
 use icbmsg::Region;
-use icmsg::RingAnswer;
 use lines::Line;
 use lines::VALUES;
 use link::Answer;
 use link::Called;
 use link::End;
+use link::PacketAnswer;
 
 // The end after a pull, and how many bytes of the buffer it filled.
 pub struct Pulled {
@@ -38,6 +38,14 @@ fn answered(line: Line, a: Answer) -> Line {
             block,
             length,
         } => line.accepted().delivered(address, block, length),
+    }
+}
+
+// A ring call's number and length, and the own index that the end keeps.
+fn packet_answered(line: Line, a: PacketAnswer, index: u32) -> Line {
+    match a {
+        PacketAnswer::Refused(x) => line.refused(x),
+        PacketAnswer::Length(k) => line.accepted().packet(k, index),
     }
 }
 
@@ -77,28 +85,28 @@ pub fn open(o: Opening) -> End {
 pub fn start(end: End, tx: &mut [u8]) -> End {
     let c = end.start(tx);
     let a = c.answer;
-    Line::by(end.initiator)
-        .text(b"start")
-        .ring_answer(a)
-        .print();
-    c.end
+    let end = c.end;
+    let line = Line::by(end.initiator).text(b"start");
+    packet_answered(line, a, end.write).print();
+    end
 }
 
 pub fn push(end: End, tx: &mut [u8], content: &[u8]) -> End {
     let c = end.push(tx, content);
     let a = c.answer;
+    let end = c.end;
     let line = Line::by(end.initiator).text(b"push").hex_bytes(content);
-    line.ring_answer(a).print();
-    c.end
+    packet_answered(line, a, end.write).print();
+    end
 }
 
 // How many bytes a pull put in a buffer of this size.
-fn filled(a: RingAnswer, size: usize) -> usize
+fn filled(a: PacketAnswer, size: usize) -> usize
     ensures { λ r. ⌜ r ≤ size ⌝ }
 {
     match a {
-        RingAnswer::Refused(_) => 0,
-        RingAnswer::Accepted { length, index: _ } => wire::least(length as usize, size),
+        PacketAnswer::Refused(_) => 0,
+        PacketAnswer::Length(k) => wire::least(k as usize, size),
     }
 }
 
@@ -118,7 +126,7 @@ pub fn pull(end: End, rx: &mut [u8], buffer: &mut [u8]) -> Pulled {
     let a = c.answer;
     let end = c.end;
     let length = filled(a, buffer.len());
-    let line = Line::by(end.initiator).text(b"pull").ring_answer(a);
+    let line = packet_answered(Line::by(end.initiator).text(b"pull"), a, end.read);
     content(line, &buffer[..length]).print();
     Pulled { end, length }
 }

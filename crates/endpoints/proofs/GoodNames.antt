@@ -20,21 +20,21 @@ none-yet n = record { rest = refl }
 pub none-more : {n : List ℕ} {i : ℕ} → NoneZero n i → i < length n → (getD n i 0 ≡ 0 → ⊥) → NoneZero n (i + 1)
 none-more {n} {i} h l z = record { rest = h .rest ∙ rw (drop-next n i l, ne-eqb (getD n i 0) 0 z) }
 
-module _ (n : List ℕ) where
-  pub too-short : length n < 1 → false ≡ goodName n
+module _ (m : ℕ) (n : List ℕ) where
+  pub too-short : length n < 1 → false ≡ goodName m n
   unfolding goodName
   too-short l = rw (lt-leb 1 (length n) l)
 
   module _ (l : 1 ≤ length n) where
-    pub too-long : 31 < length n → false ≡ goodName n
+    pub too-long : m < length n → false ≡ goodName m n
     unfolding goodName
-    too-long k = rw (le-leb 1 (length n) l, lt-leb (length n) 31 k)
+    too-long k = rw (le-leb 1 (length n) l, lt-leb (length n) m k)
 
-    module _ (k : length n ≤ 31) where
-      pub has-zero : {i : ℕ} → NoneZero n i → i < length n → getD n i 0 ≡ 0 → false ≡ goodName n
+    module _ (k : length n ≤ m) where
+      pub has-zero : {i : ℕ} → NoneZero n i → i < length n → getD n i 0 ≡ 0 → false ≡ goodName m n
       unfolding goodName
-      has-zero {i} h b z = rw (le-leb 1 (length n) l, le-leb (length n) 31 k, h .rest, drop-next n i b, eq-eqb (getD n i 0) 0 z)
+      has-zero {i} h b z = rw (le-leb 1 (length n) l, le-leb (length n) m k, h .rest, drop-next n i b, eq-eqb (getD n i 0) 0 z)
 
-      pub is-good : {i : ℕ} → NoneZero n i → length n ≤ i → true ≡ goodName n
+      pub is-good : {i : ℕ} → NoneZero n i → length n ≤ i → true ≡ goodName m n
       unfolding goodName
-      is-good {i} h b = rw (le-leb 1 (length n) l, le-leb (length n) 31 k, h .rest, drop-all n i b)
+      is-good {i} h b = rw (le-leb 1 (length n) l, le-leb (length n) m k, h .rest, drop-all n i b)

@@ -99,8 +99,8 @@ unusedFrom zero a ps = a
 unusedFrom (suc f) a ps = pick (someEndpoint (uses a) ps) (unusedFrom f (suc a) ps) a
 
 -- 1 to 31 bytes, none zero
-unfoldable pub goodName : List ℕ → Bool
-goodName n = leb 1 (length n) && leb (length n) 31 && not (any (λ b. eqb b 0) n)
+unfoldable pub goodName : ℕ → List ℕ → Bool
+goodName m n = leb 1 (length n) && leb (length n) m && not (any (λ b. eqb b 0) n)
 
 -- what the code's question whom an address reaches answers
 abbrev pub IsAddressee : Addressee → ℕ → List Endpoint → Type 0

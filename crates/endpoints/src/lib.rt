@@ -67,19 +67,19 @@ pub const NO_BINDING: Binding = Binding {
 };
 
 // The number of places for endpoints, and of places for bindings.
-const PLACES: usize = 8;
+pub const PLACES: usize = 8;
 
 // ---- names
 
-// Whether a name has 1 to 31 bytes, none zero.
-pub fn is_good_name(name: &[u8]) -> bool
-    ensures { λ r. ⌜ r ≡ goodName (now (name .entry)) ⌝ }
+// Whether a name has a byte, no more than the longest may have, and none that is zero.
+pub fn is_good_name(name: &[u8], longest: usize) -> bool
+    ensures { λ r. ⌜ r ≡ goodName longest (now (name .entry)) ⌝ }
 {
     let n = name.len();
     if n < 1 {
         return false;
     }
-    if 31 < n {
+    if longest < n {
         return false;
     }
     let mut i = 0;
@@ -143,7 +143,7 @@ fn endpoint_passes(p: Endpoint, test: EndpointTest, address: u32, name: &[u8]) -
 }
 
 // The lowest endpoint that passes the test.
-pub fn find(endpoints: [Endpoint; 8], test: EndpointTest, address: u32, name: &[u8]) -> Found
+pub fn find(endpoints: [Endpoint; PLACES], test: EndpointTest, address: u32, name: &[u8]) -> Found
     ensures { λ r. ⌜ (searchOf r ≡ endpointAt (endpointTest test address (now (name .entry))) endpoints) × FoundBelow r 1 8 ⌝ }
 {
     let mut i = 0;
@@ -158,7 +158,7 @@ pub fn find(endpoints: [Endpoint; 8], test: EndpointTest, address: u32, name: &[
 }
 
 // Whether an endpoint passes the test.
-pub fn has(endpoints: [Endpoint; 8], test: EndpointTest, address: u32, name: &[u8]) -> bool
+pub fn has(endpoints: [Endpoint; PLACES], test: EndpointTest, address: u32, name: &[u8]) -> bool
     ensures { λ r. ⌜ r ≡ someEndpoint (endpointTest test address (now (name .entry))) endpoints ⌝ }
 {
     match find(endpoints, test, address, name) {
@@ -168,7 +168,7 @@ pub fn has(endpoints: [Endpoint; 8], test: EndpointTest, address: u32, name: &[u
 }
 
 // The bound endpoint that has the address, as a byte.
-pub fn find_addressee(endpoints: [Endpoint; 8], address: u32) -> Addressee
+pub fn find_addressee(endpoints: [Endpoint; PLACES], address: u32) -> Addressee
     ensures { λ r. ⌜ IsAddressee r address endpoints ⌝ }
 {
     let nameless = [0u8; 1];
@@ -181,13 +181,16 @@ pub fn find_addressee(endpoints: [Endpoint; 8], address: u32) -> Addressee
     }
 }
 
+// As many addresses as places are enough: one is unused as long as a place is.
+const ADDRESSES: u8 = PLACES as u8;
+
 // The lowest address that no endpoint uses.
-pub fn unused_address(endpoints: [Endpoint; 8]) -> u8
+pub fn unused_address(endpoints: [Endpoint; PLACES]) -> u8
     ensures { λ r. ⌜ r ≡ unusedFrom 8 0 endpoints ⌝ }
 {
     let nameless = [0u8; 1];
     let mut a: u8 = 0;
-    while a < 8 {
+    while a < ADDRESSES {
         if !has(endpoints, EndpointTest::Uses, a as u32, &nameless) {
             return a;
         }
@@ -197,7 +200,7 @@ pub fn unused_address(endpoints: [Endpoint; 8]) -> u8
 }
 
 // The endpoints with the one that waits at this address bound.
-pub fn bind_waiting(mut endpoints: [Endpoint; 8], address: u8) -> [Endpoint; 8]
+pub fn bind_waiting(mut endpoints: [Endpoint; PLACES], address: u8) -> [Endpoint; PLACES]
     ensures { λ r. ⌜ r ≡ boundNow endpoints address (endpointAt (waitingAt address) endpoints) ⌝ }
 {
     let nameless = [0u8; 1];
@@ -239,7 +242,7 @@ fn binding_passes(b: Binding, test: BindingTest, count: u16, address: u8, name: 
 
 // The lowest binding that passes the test.
 pub fn find_binding(
-    bindings: [Binding; 8],
+    bindings: [Binding; PLACES],
     test: BindingTest,
     count: u16,
     address: u8,
@@ -260,7 +263,7 @@ pub fn find_binding(
 
 // Whether a binding passes the test.
 pub fn has_binding(
-    bindings: [Binding; 8],
+    bindings: [Binding; PLACES],
     test: BindingTest,
     count: u16,
     address: u8,

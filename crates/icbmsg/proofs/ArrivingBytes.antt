@@ -7,7 +7,7 @@ use lib.Dec.{leb, ltb, eqb}
 use lib.ListN.{getD}
 use Rattle.wire.specs.Choice.{pick}
 use Rattle.wire.specs.Reads.{gives, answer}
-use Rattle.icbmsg.specs.Outcome.{Outcome, refused, accepted, Rule, check}
+use Rattle.icbmsg.specs.Outcome.{delivery, Outcome, refused, accepted, Rule, check}
 use Rattle.blocks.specs.Tables.{blocksFor, taken}
 use Rattle.endpoints.specs.Endpoints.{someEndpoint, boundAt}
 use Rattle.blocks.specs.Names.{Name, endless, name, longer, nameIn}
@@ -24,7 +24,7 @@ answer-pick false t u r = refl
 
 -- kind 0
 abbrev pub received : End → ℕ → ℕ → ℕ → Outcome
-received e a b k = accepted (withHeld e (taken (e .held) ReceivedData b (blocksFor (e .rx .size) k) a k)) (a ∷ b ∷ k ∷ [])
+received e a b k = accepted (withHeld e (taken (e .held) ReceivedData b (blocksFor (e .rx .size) k) a k)) (delivery a b k)
 
 pub data-flat : (e : End) (a b : ℕ) (r : List ℕ) → answer (dataRule e a b) r ≡
     check (leb a 0xFD) 14 e

@@ -4,7 +4,7 @@ use mathlib.Core.Bool.{Bool, true, false, not, _&&_}
 use mathlib.Core.Path.{_≡_, refl}
 use mathlib.Core.List.{List, [], _∷_}
 use native.Mathlib.Omega.{arith}
-use native.Mathlib.Nat.{mul-le-mul, mul-le-mul-right}
+use native.Mathlib.Nat.{mul-le-mul, mul-le-mul-right, add-mul}
 use lib.Dec.{leb, ltb, eqb}
 use lib.ListN.{length, set, length-set}
 use borrow.Author.Tests.{ltb-true, leb-true, le-leb, not-true}
@@ -16,7 +16,7 @@ use Rattle.icmsg.specs.Ring.{inRule}
 use Rattle.icmsg.specs.Rules.{Outcome as RingOutcome, Answer, refused as ringNo, accepted as ringYes, pushRule as ringPush, startRule as ringStart, pullRule as ringPull}
 use Rattle.icmsg.specs.declared.Ring.{Ring}
 use Rattle.icmsg.proofs.Indexes.{indexes-in-rule, refusals}
-use Rattle.icbmsg.specs.Outcome.{refusedWith, ringRefused, Outcome, refused, check, guard}
+use Rattle.icbmsg.specs.Outcome.{Given, nothing, Outcome, refusedWith, ringRefused, refused, placed, withoutPlace, check, guard}
 use Rattle.blocks.specs.Search.{Search, nowhere, foundAt}
 use Rattle.blocks.specs.Tables.{entry, lies, starts, startsData, allFree, freed, taken, runEntry, blocksFor, freeRun}
 use Rattle.icbmsg.specs.Ends.{blockAt, soundEnd, isOpen, changed, withWrite, withRead, foundOr, whole}
@@ -31,7 +31,9 @@ use Rattle.icbmsg.specs.Calls.{Call, start, push, pull, reserve, room, s
 use Rattle.icbmsg.specs.Reading.{sizeIn, contentAt}
 use Rattle.blocks.specs.WellFormed.{leading, blockKind, Live}
 use Rattle.icbmsg.specs.WellFormed.{sentRun, bindingOf}
-use Rattle.icbmsg.specs.Theorems.{noRun, thisRun, decodedFrees, freedByName, freedBy, Part, no-part, length-part, room-part, view-part, refusedValues, PartIn, partOf}
+use Rattle.icbmsg.specs.Ledger.{RunChange, no-change, sent-takes, sent-trims, sent-frees, held-takes, held-frees, reserveChange, deliveryChange, storedChange, registerChange, arrivalChange, runChange}
+use Rattle.icbmsg.specs.Theorems.{Part, no-part, length-part, room-part, view-part, refusedGiven, partOf}
+use Rattle.icbmsg.specs.Places.{InMessage, PartIn}
 use Rattle.blocks.proofs.LeastBlocks.{blocks-hold, blocks-least, blocks-one}
 use Rattle.blocks.proofs.Search.{first-at, lowest-at}
 use Rattle.blocks.proofs.Tables.{run-of, live, data-run, Each, every}
@@ -49,57 +51,59 @@ use Rattle.icbmsg.specs.End.{End}
 -- ---- how an end may change
 
 -- a table: free blocks are taken, a live run is freed, or trimmed
-pub data SentChange (F : ℕ → Type 0) (c : ℕ) (good : Entry → Bool) (t : List Entry) : List Entry → Type 0 where
-  takes : (u : Use) (s n a k : ℕ) → blockKind u ≡ leading → good (runEntry u n a k) ≡ true → allFree t s n ≡ true → 1 ≤ n → s + n ≤ c → SentChange F c good t (taken t u s n a k)
-  frees : (s : ℕ) → F s → Live t s → SentChange F c good t (freed t s (entry t s .count))
-  trims : (u : Use) (s n a k : ℕ) → F s → Live t s → blockKind u ≡ leading → good (runEntry u n a k) ≡ true → 1 ≤ n → n ≤ entry t s .count →
-      SentChange F c good t (taken (freed t s (entry t s .count)) u s n a k)
+pub data SentChange (c : ℕ) (good : Entry → Bool) (t : List Entry) : RunChange → List Entry → Type 0 where
+  takes : (u : Use) (s n a k : ℕ) → blockKind u ≡ leading → good (runEntry u n a k) ≡ true → allFree t s n ≡ true → 1 ≤ n → s + n ≤ c → SentChange c good t (sent-takes s n) (taken t u s n a k)
+  frees : (s : ℕ) → Live t s → SentChange c good t (sent-frees s) (freed t s (entry t s .count))
+  trims : (u : Use) (s n a k : ℕ) → Live t s → blockKind u ≡ leading → good (runEntry u n a k) ≡ true → 1 ≤ n → n ≤ entry t s .count →
+      SentChange c good t (sent-trims s n) (taken (freed t s (entry t s .count)) u s n a k)
 
 -- the received table with the stored bindings
-pub data HeldChange (G : ℕ → Type 0) (g : Region) (t : List Entry) (bs : List Binding) : List Entry → List Binding → Type 0 where
-  nothing : HeldChange G g t bs t bs
-  receives : (s n a k : ℕ) → leb (k + 4) (n * g .size) ≡ true → allFree t s n ≡ true → 1 ≤ n → s + n ≤ g .count → HeldChange G g t bs (taken t ReceivedData s n a k) bs
-  finishes : (s : ℕ) → G s → entry t s .usage ≡ ReceivedData → HeldChange G g t bs (freed t s (entry t s .count)) bs
+pub data HeldChange (g : Region) (t : List Entry) (bs : List Binding) : RunChange → List Entry → List Binding → Type 0 where
+  as-was : HeldChange g t bs no-change t bs
+  receives : (s n a k : ℕ) → leb (k + 4) (n * g .size) ≡ true → allFree t s n ≡ true → 1 ≤ n → s + n ≤ g .count → HeldChange g t bs (held-takes s n) (taken t ReceivedData s n a k) bs
+  finishes : (s : ℕ) → entry t s .usage ≡ ReceivedData → HeldChange g t bs (held-frees s) (freed t s (entry t s .count)) bs
   stores : (s n a j : ℕ) (name : List ℕ) → allFree t s n ≡ true → 1 ≤ n → s + n ≤ g .count → j < 8 → bindingOf bs j .stored ≡ false →
-      HeldChange G g t bs (taken t StoredBinding s n a 0) (set bs j (record { stored = true; address = a; start = s; count = n; name = name }))
-  forgets : (j : ℕ) → G (bindingOf bs j .start) → j < 8 → bindingOf bs j .stored ≡ true → HeldChange G g t bs (freed t (bindingOf bs j .start) (bindingOf bs j .count)) (set bs j noBinding)
+      HeldChange g t bs (held-takes s n) (taken t StoredBinding s n a 0) (set bs j (record { stored = true; address = a; start = s; count = n; name = name }))
+  forgets : (j : ℕ) → j < 8 → bindingOf bs j .stored ≡ true →
+      HeldChange g t bs (held-frees (bindingOf bs j .start)) (freed t (bindingOf bs j .start) (bindingOf bs j .count)) (set bs j noBinding)
 
 -- an end
-pub data EndChange (F G : ℕ → Type 0) (e : End) : End → Type 0 where
-  stays : EndChange F G e e
-  writes : (w : ℕ) → inRule (e .tx .ring) w ≡ true → EndChange F G e (withWrite e w)
-  reads : (r : ℕ) → inRule (e .rx .ring) r ≡ true → EndChange F G e (withRead e r)
-  sends : {t : List Entry} (ps : List Endpoint) → SentChange F (e .tx .count) (sentRun (e .tx)) (e .sent) t → length ps ≡ length (e .endpoints) →
-      EndChange F G e (changed e (e .write) (e .read) t (e .held) ps (e .bindings))
-  keeps : {t : List Entry} {bs : List Binding} (ps : List Endpoint) → HeldChange G (e .rx) (e .held) (e .bindings) t bs → length ps ≡ length (e .endpoints) →
-      EndChange F G e (changed e (e .write) (e .read) (e .sent) t ps bs)
+pub data EndChange (e : End) : RunChange → End → Type 0 where
+  stays : EndChange e no-change e
+  writes : (w : ℕ) → inRule (e .tx .ring) w ≡ true → EndChange e no-change (withWrite e w)
+  reads : (r : ℕ) → inRule (e .rx .ring) r ≡ true → EndChange e no-change (withRead e r)
+  sends : {d : RunChange} {t : List Entry} (ps : List Endpoint) → SentChange (e .tx .count) (sentRun (e .tx)) (e .sent) d t → length ps ≡ length (e .endpoints) →
+      EndChange e d (changed e (e .write) (e .read) t (e .held) ps (e .bindings))
+  keeps : {d : RunChange} {t : List Entry} {bs : List Binding} (ps : List Endpoint) → HeldChange (e .rx) (e .held) (e .bindings) d t bs → length ps ≡ length (e .endpoints) →
+      EndChange e d (changed e (e .write) (e .read) (e .sent) t ps bs)
 
 -- ---- what a call does
 
-pub data Effect (F G : ℕ → Type 0) (e : End) (p : Part) : Outcome → Type 0 where
-  refuses : (n : ℕ) → leb 1 n ≡ true → Effect F G e p (refusedWith (refusedValues p) e n)
-  accepts : {o : Outcome} → o .number ≡ 0 → isOpen e ≡ true → PartIn e p o → EndChange F G e (o .next) → Effect F G e p o
+-- f tells the change of the runs by what comes with the answer
+pub data Effect (f : Given → RunChange) (e : End) (p : Part) : Outcome → Type 0 where
+  refuses : (n : ℕ) → leb 1 n ≡ true → Effect f e p (refusedWith (refusedGiven p) e n)
+  accepts : {o : Outcome} → o .number ≡ 0 → isOpen e ≡ true → PartIn e p o → EndChange e (f (o .given)) (o .next) → Effect f e p o
 
 -- ---- checks
 
 -- a check of number n, at a call that hands out no length
 abbrev Plain : Part → ℕ → Type 0
-Plain p n = (refusedValues p ≡ []) × (leb 1 n ≡ true)
+Plain p n = (refusedGiven p ≡ nothing) × (leb 1 n ≡ true)
 
-plainly : {F G : ℕ → Type 0} {e : End} {p : Part} (n : ℕ) → Plain p n → Effect F G e p (refused e n)
-plainly {F} {G} {e} {p} n h =
-    let r : Effect F G e p (refusedWith (refusedValues p) e n) = refuses n (h .1) in
+plainly : {f : Given → RunChange} {e : End} {p : Part} (n : ℕ) → Plain p n → Effect f e p (refused e n)
+plainly {f} {e} {p} n h =
+    let r : Effect f e p (refusedWith (refusedGiven p) e n) = refuses n (h .1) in
     rw (h .0) at r
 
-checked : {F G : ℕ → Type 0} {e : End} {p : Part} {o : Outcome} (b : Bool) (n : ℕ) → Plain p n → (b ≡ true → Effect F G e p o) → Effect F G e p (check b n e o)
-checked true n h f = f refl
-checked false n h f = plainly n h
+checked : {f : Given → RunChange} {e : End} {p : Part} {o : Outcome} (b : Bool) (n : ℕ) → Plain p n → (b ≡ true → Effect f e p o) → Effect f e p (check b n e o)
+checked true n h k = k refl
+checked false n h k = plainly n h
 
-found : {F G : ℕ → Type 0} {e : End} {p : Part} {f : ℕ → Outcome} (q : Search) (n : ℕ) → Plain p n → ((s : ℕ) → q ≡ foundAt s → Effect F G e p (f s)) → Effect F G e p (foundOr n e f q)
+found : {f : Given → RunChange} {e : End} {p : Part} {o : ℕ → Outcome} (q : Search) (n : ℕ) → Plain p n → ((s : ℕ) → q ≡ foundAt s → Effect f e p (o s)) → Effect f e p (foundOr n e o q)
 found nowhere n h k = plainly n h
 found (foundAt s) n h k = k s refl
 
-picked : {F G : ℕ → Type 0} {e : End} {p : Part} {o o′ : Outcome} (b : Bool) → Effect F G e p o → Effect F G e p o′ → Effect F G e p (pick b o o′)
+picked : {f : Given → RunChange} {e : End} {p : Part} {o o′ : Outcome} (b : Bool) → Effect f e p o → Effect f e p o′ → Effect f e p (pick b o o′)
 picked true h k = h
 picked false h k = k
 
@@ -109,9 +113,16 @@ sound e h = every (soundEnd e) h
 
 -- ---- runs
 
--- the place of n blocks at s
-pub in-blocks : (g : Region) (s n x : ℕ) → s + n ≤ g .count → x + 4 ≤ n * g .size → (g .blocks ≤ blockAt g s + 4) × (blockAt g s + 4 + x ≤ g .blocks + g .count * g .size)
-in-blocks g s n x h k = let m = mul-le-mul-right (g .size) h in omega arith
+-- n blocks at s end inside the region's blocks
+pub run-ends : (g : Region) (s n : ℕ) → s + n ≤ g .count → blockAt g s + n * g .size ≤ g .blocks + g .count * g .size
+run-ends g s n h = omega (arith, mul-le-mul-right (g .size) h, add-mul s n (g .size))
+
+-- x bytes behind the header of a live run
+in-message : (e : End) (g : Region) (t : List Entry) (s x : ℕ) → Live t s → s + entry t s .count ≤ g .count → x + 4 ≤ entry t s .count * g .size →
+    InMessage g t s (placed e (blockAt g s + 4) x)
+in-message e g t s x l h k =
+    let m = run-ends g s (entry t s .count) h in
+    record { live = l; after-header = omega arith; before-end = omega arith; first-block = omega arith; last-block = omega arith }
 
 -- ---- each rule
 
@@ -120,12 +131,12 @@ whole-open e g n h = both (isOpen e) (eqb n (g .bytes)) h .0
 
 -- the end's test says that an own index is in rule, and the other tests of a ring
 write-effect : (e : End) (w : Bool) (ws : List (ℕ × ℕ)) (a : Answer) → (w ≡ true → isOpen e ≡ true) → ((n : ℕ) → a ≡ ringNo n → 1 ≤ n) →
-    ((k i : ℕ) → a ≡ ringYes k i → inRule (e .tx .ring) i ≡ true) → Effect noRun noRun e length-part (pick w (pushOutcome e ws a) (ringRefused e 6))
+    ((k i : ℕ) → a ≡ ringYes k i → inRule (e .tx .ring) i ≡ true) → Effect (λ _. no-change) e length-part (pick w (pushOutcome e ws a) (ringRefused e 6))
 write-effect e true ws (ringNo n) o p q = refuses n (le-leb 1 n (p n refl))
 write-effect e true ws (ringYes k i) o p q = accepts refl (o refl) (refl, refl) (writes i (q k i refl))
 write-effect e false ws a o p q = refuses _ refl
 
-push-effect : (e : End) (tx c : List ℕ) → Effect noRun noRun e length-part (pushOf e tx c)
+push-effect : (e : End) (tx c : List ℕ) → Effect (λ _. no-change) e length-part (pushOf e tx c)
 unfolding pushOf
 push-effect e tx c =
     let g : Ring = ringOf (e .align) (e .tx) in
@@ -133,7 +144,7 @@ push-effect e tx c =
     write-effect e (whole e (e .tx) (length tx)) (o .region) (o .answer) (whole-open e (e .tx) (length tx))
     (λ n h. refusals .push tx g (e .write) c n h .0) (λ k i h. indexes-in-rule .push tx g (e .write) c k i h)
 
-start-effect : (e : End) (n : ℕ) → Effect noRun noRun e length-part (startOf e n)
+start-effect : (e : End) (n : ℕ) → Effect (λ _. no-change) e length-part (startOf e n)
 unfolding startOf
 start-effect e n =
     let g : Ring = ringOf (e .align) (e .tx) in
@@ -142,12 +153,12 @@ start-effect e n =
     (λ m h. refusals .start n g m h .0) (λ k i h. indexes-in-rule .start n g k i h)
 
 read-effect : (e : End) (w : Bool) (ws bs : List (ℕ × ℕ)) (a : Answer) → (w ≡ true → isOpen e ≡ true) → ((n : ℕ) → a ≡ ringNo n → 1 ≤ n) →
-    ((k i : ℕ) → a ≡ ringYes k i → inRule (e .rx .ring) i ≡ true) → Effect noRun noRun e length-part (pick w (pullOutcome e ws bs a) (ringRefused e 6))
+    ((k i : ℕ) → a ≡ ringYes k i → inRule (e .rx .ring) i ≡ true) → Effect (λ _. no-change) e length-part (pick w (pullOutcome e ws bs a) (ringRefused e 6))
 read-effect e true ws bs (ringNo n) o p q = refuses n (le-leb 1 n (p n refl))
 read-effect e true ws bs (ringYes k i) o p q = accepts refl (o refl) (refl, refl) (reads i (q k i refl))
 read-effect e false ws bs a o p q = refuses _ refl
 
-pull-effect : (e : End) (r : List ℕ) (b : ℕ) → Effect noRun noRun e length-part (answer (pullRule e (length r) b) r)
+pull-effect : (e : End) (r : List ℕ) (b : ℕ) → Effect (λ _. no-change) e length-part (answer (pullRule e (length r) b) r)
 pull-effect e r b =
     let g : Ring = ringOf (e .align) (e .rx) in
     let o : RingOutcome = answer (ringPull (length r) g (e .read) b) r in
@@ -160,13 +171,13 @@ size-pos e o = let z = sound e o in omega (arith, leb-true)
 
 -- a run of as many blocks as K needs
 take-run : (e : End) (u : Use) (a k m s : ℕ) → isOpen e ≡ true → blockKind u ≡ leading → sentRun (e .tx) (runEntry u (blocksFor (e .tx .size) k) a m) ≡ true →
-    freeRun (e .tx .count) (e .sent) (blocksFor (e .tx .size) k) ≡ foundAt s → SentChange noRun (e .tx .count) (sentRun (e .tx)) (e .sent) (taken (e .sent) u s (blocksFor (e .tx .size) k) a m)
+    freeRun (e .tx .count) (e .sent) (blocksFor (e .tx .size) k) ≡ foundAt s → SentChange (e .tx .count) (sentRun (e .tx)) (e .sent) (sent-takes s (blocksFor (e .tx .size) k)) (taken (e .sent) u s (blocksFor (e .tx .size) k) a m)
 unfolding freeRun
 take-run e u a k m s o su g q =
     let w = lowest-at (e .tx .count) (e .sent) 0 (blocksFor (e .tx .size) k) (e .tx .count) s q in
     takes u s (blocksFor (e .tx .size) k) a m su g (w .free-there) (blocks-one (e .tx .size) k (size-pos e o .0)) (w .room)
 
-reserve-effect : (e : End) (k : ℕ) → Effect noRun noRun e no-part (reserveOf e k)
+reserve-effect : (e : End) (k : ℕ) → Effect reserveChange e no-part (reserveOf e k)
 unfolding reserveOf
 reserve-effect e k =
     checked (isOpen e) _ (refl, refl) λ o.
@@ -174,7 +185,7 @@ reserve-effect e k =
     found (freeRun (e .tx .count) (e .sent) (blocksFor (e .tx .size) k)) _ (refl, refl) λ s q.
     accepts refl o (refl, refl) (sends (e .endpoints) (take-run e Reserved 0 k 0 s o refl refl q) refl)
 
-room-effect : (e : End) (n s : ℕ) → Effect noRun noRun e room-part (roomOf e n s)
+room-effect : (e : End) (n s : ℕ) → Effect (λ _. no-change) e (room-part s) (roomOf e n s)
 unfolding roomOf
 room-effect e n s =
     checked (whole e (e .tx) n) _ (refl, refl) λ w.
@@ -184,9 +195,9 @@ room-effect e n s =
     let r = run-of Reserved (e .tx .count) (e .sent) s h in
     let x : ℕ = entry (e .sent) s .count * e .tx .size in
     let l : 4 ≤ x = omega (arith, mul-le-mul (r .one) (leb-true 4 (e .tx .size) (z .1 .1 .1 .1 .1 .1 .1 .1 .1 .1 .1 .1 .0))) in
-    accepts refl o (in-blocks (e .tx) s (entry (e .sent) s .count) (x - 4) (r .ends) (omega arith)) stays
+    accepts refl o (in-message e (e .tx) (e .sent) s (x - 4) (live r refl) (r .ends) (omega arith)) stays
 
-send-effect : (e : End) (n s a k : ℕ) → Effect (thisRun s) noRun e no-part (sendOf e n s a k)
+send-effect : (e : End) (n s a k : ℕ) → Effect (λ _. sent-trims s (blocksFor (e .tx .size) k)) e no-part (sendOf e n s a k)
 unfolding sendOf
 send-effect e n s a k =
     checked (whole e (e .tx) n) _ (refl, refl) λ w.
@@ -198,48 +209,39 @@ send-effect e n s a k =
     let p = size-pos e o .0 in
     accepts refl o (refl, refl)
     (sends (e .endpoints)
-    (trims SentData s (blocksFor (e .tx .size) k) a k refl (live r refl) refl (le-leb (k + 4) (blocksFor (e .tx .size) k * e .tx .size) (blocks-hold (e .tx .size) k p)) (blocks-one (e .tx .size) k p)
+    (trims SentData s (blocksFor (e .tx .size) k) a k (live r refl) refl (le-leb (k + 4) (blocksFor (e .tx .size) k * e .tx .size) (blocks-hold (e .tx .size) k p)) (blocks-one (e .tx .size) k p)
     (blocks-least (e .tx .size) k (entry (e .sent) s .count) (leb-true (k + 4) (entry (e .sent) s .count * e .tx .size) f) p))
     refl)
 
-drop-effect : (e : End) (s : ℕ) → Effect (thisRun s) noRun e no-part (dropOf e s)
+drop-effect : (e : End) (s : ℕ) → Effect (λ _. sent-frees s) e no-part (dropOf e s)
 unfolding dropOf
 drop-effect e s =
     checked (isOpen e) _ (refl, refl) λ o.
     checked (starts Reserved (e .tx .count) (e .sent) s) _ (refl, refl) λ h.
-    accepts refl o (refl, refl) (sends (e .endpoints) (frees s refl (live (run-of Reserved (e .tx .count) (e .sent) s h) refl)) refl)
+    accepts refl o (refl, refl) (sends (e .endpoints) (frees s (live (run-of Reserved (e .tx .count) (e .sent) s h) refl)) refl)
 
-view-effect : (e : End) (n s : ℕ) → Effect noRun noRun e view-part (viewOf e n s)
+view-effect : (e : End) (n s : ℕ) → Effect (λ _. no-change) e (view-part s) (viewOf e n s)
 unfolding viewOf
 view-effect e n s =
     checked (whole e (e .rx) n) _ (refl, refl) λ w.
     checked (startsData (e .rx .count) (e .rx .size) (e .held) s) _ (refl, refl) λ h.
     let d = data-run (e .rx .count) (e .rx .size) (e .held) s h in
-    accepts refl (whole-open e (e .rx) n w) (in-blocks (e .rx) s (entry (e .held) s .count) (entry (e .held) s .length) (d .0 .ends) (d .1)) stays
+    accepts refl (whole-open e (e .rx) n w) (in-message e (e .rx) (e .held) s (entry (e .held) s .length) (live (d .0) refl) (d .0 .ends) (d .1)) stays
 
-done-effect : (e : End) (s : ℕ) → Effect noRun (thisRun s) e no-part (doneOf e s)
+done-effect : (e : End) (s : ℕ) → Effect (λ _. held-frees s) e no-part (doneOf e s)
 unfolding doneOf
 done-effect e s =
     checked (isOpen e) _ (refl, refl) λ o.
     checked (startsData (e .rx .count) (e .rx .size) (e .held) s) _ (refl, refl) λ h.
-    accepts refl o (refl, refl) (keeps (e .endpoints) (finishes s refl (data-run (e .rx .count) (e .rx .size) (e .held) s h .0 .use-is-it)) refl)
+    accepts refl o (refl, refl) (keeps (e .endpoints) (finishes s (data-run (e .rx .count) (e .rx .size) (e .held) s h .0 .use-is-it)) refl)
 
-roomQuestion-effect : (e : End) (s n : ℕ) → Effect noRun noRun e no-part (roomQuestion e s n)
-unfolding roomQuestion
-roomQuestion-effect e s n =
-    checked (whole e (e .tx) n) _ (refl, refl) λ w.
-    checked (starts Reserved (e .tx .count) (e .sent) s) _ (refl, refl) λ _.
-    accepts refl (whole-open e (e .tx) n w) (refl, refl) stays
-
-viewQuestion-effect : (e : End) (s n : ℕ) → Effect noRun noRun e no-part (viewQuestion e s n)
-unfolding viewQuestion
-viewQuestion-effect e s n =
-    checked (whole e (e .rx) n) _ (refl, refl) λ w.
-    checked (startsData (e .rx .count) (e .rx .size) (e .held) s) _ (refl, refl) λ _.
-    accepts refl (whole-open e (e .rx) n w) (refl, refl) stays
+-- a question on a part hands out none
+asked : {e : End} {p : Part} {o : Outcome} → refusedGiven p ≡ nothing → Effect (λ _. no-change) e p o → Effect (λ _. no-change) e no-part (withoutPlace o)
+asked q (refuses n h) = rw q (refuses n h)
+asked q (accepts z o i m) = accepts z o (refl, refl) m
 
 -- register
-initiates-effect : (e : End) (n : List ℕ) (i : ℕ) → isOpen e ≡ true → Effect noRun (freedByName e n) e no-part (initiates e n i)
+initiates-effect : (e : End) (n : List ℕ) (i : ℕ) → isOpen e ≡ true → Effect (registerChange (blocksFor (e .tx .size) (length n + 1))) e no-part (initiates e n i)
 unfolding initiates
 initiates-effect e n i o =
     let k : ℕ = length n + 1 in
@@ -250,19 +252,19 @@ initiates-effect e n i o =
     (take-run e SentBinding (unusedFrom 8 0 (e .endpoints)) k k s o refl (le-leb (k + 4) (blocksFor (e .tx .size) k * e .tx .size) (blocks-hold (e .tx .size) k (size-pos e o .0))) q)
     (length-set (e .endpoints) i _))
 
-followed-effect : (e : End) (n : List ℕ) (i : ℕ) (q : Search) → isOpen e ≡ true → bindingAt (holds (e .rx .count) n) (e .bindings) ≡ q → Effect noRun (freedByName e n) e no-part (followed e n i q)
-followed-effect e n i nowhere o h = accepts refl o (refl, refl) (keeps (become e i _ 0 n) nothing (length-set (e .endpoints) i _))
+followed-effect : (e : End) (n : List ℕ) (i : ℕ) (q : Search) → isOpen e ≡ true → bindingAt (holds (e .rx .count) n) (e .bindings) ≡ q → Effect (registerChange (blocksFor (e .tx .size) (length n + 1))) e no-part (followed e n i q)
+followed-effect e n i nowhere o h = accepts refl o (refl, refl) (keeps (become e i _ 0 n) as-was (length-set (e .endpoints) i _))
 followed-effect e n i (foundAt j) o h =
     let w = first-at (holds (e .rx .count) n) noBinding (e .bindings) 8 0 j h in
     let b : Binding = bindingOf (e .bindings) j in
     let z = every (b .stored ∷ same (b .name) (paddedName n) ∷ lies (e .rx .count) (b .start) (b .count) ∷ []) (w .0) in
-    accepts refl o (refl, refl) (keeps (become e i _ (b .address) n) (forgets j (j, h, refl) (omega arith) (z .0)) (length-set (e .endpoints) i _))
+    accepts refl o (refl, refl) (keeps (become e i _ (b .address) n) (forgets j (omega arith) (z .0)) (length-set (e .endpoints) i _))
 
-register-effect : (e : End) (l : ℕ) (n : List ℕ) → Effect noRun (freedByName e n) e no-part (registerOf e l n)
+register-effect : (e : End) (l : ℕ) (n : List ℕ) → Effect (registerChange (blocksFor (e .tx .size) (length n + 1))) e no-part (registerOf e l n)
 unfolding registerOf
 register-effect e l n =
     checked (whole e (e .tx) l) _ (refl, refl) λ w.
-    checked (goodName n) _ (refl, refl) λ _.
+    checked (goodName 31 n) _ (refl, refl) λ _.
     checked (not (someEndpoint (registered n) (e .endpoints))) _ (refl, refl) λ _.
     found (endpointAt (at isUnused) (e .endpoints)) _ (refl, refl) λ i _.
     let o = whole-open e (e .tx) l w in
@@ -275,7 +277,7 @@ fit-run g b k p h f =
     let l = ltb-true b (g .count) h in
     omega (arith, blocks-least (g .size) k (g .count - b) (leb-true (k + 4) ((g .count - b) * g .size) f) p)
 
-data-effect : (e : End) (a b : ℕ) (r : List ℕ) → isOpen e ≡ true → Effect noRun noRun e no-part (answer (dataRule e a b) r)
+data-effect : (e : End) (a b : ℕ) (r : List ℕ) → isOpen e ≡ true → Effect (deliveryChange (e .rx .size)) e no-part (answer (dataRule e a b) r)
 data-effect e a b r o =
     let k : ℕ = sizeIn e b r in
     let g : Region = e .rx in
@@ -291,18 +293,18 @@ data-effect e a b r o =
     accepts refl o (refl, refl)
     (keeps (e .endpoints) (receives b (blocksFor (g .size) k) a k (le-leb (k + 4) (blocksFor (g .size) k * g .size) x) u (blocks-one (g .size) k p) m) refl))
 
-release-effect : (e : End) (b : ℕ) → isOpen e ≡ true → Effect (thisRun b) noRun e no-part (releaseOf e b)
+release-effect : (e : End) (b : ℕ) → isOpen e ≡ true → Effect (λ _. sent-frees b) e no-part (releaseOf e b)
 unfolding releaseOf
 release-effect e b o =
     checked (ltb b (e .tx .count)) _ (refl, refl) λ _.
     checked (starts SentData (e .tx .count) (e .sent) b) _ (refl, refl) λ h.
-    accepts refl o (refl, refl) (sends (e .endpoints) (frees b refl (live (run-of SentData (e .tx .count) (e .sent) b h) refl)) refl)
+    accepts refl o (refl, refl) (sends (e .endpoints) (frees b (live (run-of SentData (e .tx .count) (e .sent) b h) refl)) refl)
 
 boundNow-length : (ps : List Endpoint) (a : ℕ) (q : Search) → length (boundNow ps a q) ≡ length ps
 boundNow-length ps a nowhere = refl
 boundNow-length ps a (foundAt i) = length-set ps i _
 
-bindingReleased-effect : (e : End) (a b : ℕ) → isOpen e ≡ true → Effect (thisRun b) noRun e no-part (releasedBoundOf e a b)
+bindingReleased-effect : (e : End) (a b : ℕ) → isOpen e ≡ true → Effect (λ _. sent-frees b) e no-part (releasedBoundOf e a b)
 unfolding releasedBoundOf
 bindingReleased-effect e a b o =
     checked (leb a 0xFD) _ (refl, refl) λ _.
@@ -310,18 +312,18 @@ bindingReleased-effect e a b o =
     checked (starts SentBinding (e .tx .count) (e .sent) b && eqb (entry (e .sent) b .address) a) _ (refl, refl) λ h.
     let r = run-of SentBinding (e .tx .count) (e .sent) b (both (starts SentBinding (e .tx .count) (e .sent) b) _ h .0) in
     let q : Search = endpointAt (waitingAt a) (e .endpoints) in
-    accepts refl o (refl, refl) (sends (boundNow (e .endpoints) a q) (frees b refl (live r refl)) (boundNow-length (e .endpoints) a q))
+    accepts refl o (refl, refl) (sends (boundNow (e .endpoints) a q) (frees b (live r refl)) (boundNow-length (e .endpoints) a q))
 
 boundTo-effect : (e : End) (a b n : ℕ) (its : List ℕ) (q : Search) → isOpen e ≡ true → allFree (e .held) b n ≡ true → 1 ≤ n → b + n ≤ e .rx .count →
-    Effect noRun noRun e no-part (boundTo e a b n its q)
+    Effect (storedChange b n) e no-part (boundTo e a b n its q)
 boundTo-effect e a b n its nowhere o f l m =
     found (bindingAt (λ x. not (x .stored)) (e .bindings)) _ (refl, refl) λ j h.
     let w = first-at (λ x. not (x .stored)) noBinding (e .bindings) 8 0 j h in
     accepts refl o (refl, refl) (keeps (e .endpoints) (stores b n a j (paddedName its) f l m (omega arith) (not-true _ (w .0))) refl)
-boundTo-effect e a b n its (foundAt i) o f l m = accepts refl o (refl, refl) (keeps (become e i _ a its) nothing (length-set (e .endpoints) i _))
+boundTo-effect e a b n its (foundAt i) o f l m = accepts refl o (refl, refl) (keeps (become e i _ a its) as-was (length-set (e .endpoints) i _))
 
 named-effect : (e : End) (a b n : ℕ) (q : Name) → isOpen e ≡ true → allFree (e .held) b n ≡ true → 1 ≤ n → b + n ≤ e .rx .count →
-    Effect noRun noRun e no-part (withName e (boundNamed e a b n) q)
+    Effect (storedChange b n) e no-part (withName e (boundNamed e a b n) q)
 unfolding boundNamed
 named-effect e a b n endless o f l m = refuses _ refl
 named-effect e a b n (name cs) o f l m =
@@ -329,7 +331,7 @@ named-effect e a b n (name cs) o f l m =
     checked (not (someEndpoint (clashes a cs) (e .endpoints)) && not (someBinding (clashesStored a cs) (e .bindings))) _ (refl, refl) λ _.
     boundTo-effect e a b n cs (endpointAt (waitingFor cs) (e .endpoints)) o f l m
 
-bound-effect : (e : End) (a b : ℕ) (r : List ℕ) → isOpen e ≡ true → Effect noRun noRun e no-part (answer (boundRule e a b) r)
+bound-effect : (e : End) (a b : ℕ) (r : List ℕ) → isOpen e ≡ true → Effect (storedChange b (blocksFor (e .rx .size) (sizeIn e b r))) e no-part (answer (boundRule e a b) r)
 bound-effect e a b r o =
     let k : ℕ = sizeIn e b r in
     let g : Region = e .rx in
@@ -342,7 +344,7 @@ bound-effect e a b r o =
     checked (areFree (e .held) (e .rx) b k) _ (refl, refl) λ u.
     named-effect e a b (blocksFor (g .size) k) (nameIn (min k 32) (contentAt e b) r) o u (blocks-one (g .size) k p) (fit-run g b k p h f))
 
-decoded-effect : (e : End) (l : Control) (r : List ℕ) → isOpen e ≡ true → Effect (decodedFrees l .sent) (decodedFrees l .held) e no-part (answer (decodedRule e l) r)
+decoded-effect : (e : End) (l : Control) (r : List ℕ) → isOpen e ≡ true → Effect (arrivalChange (e .rx) r l) e no-part (answer (decodedRule e l) r)
 decoded-effect e UnknownKind r o = refuses _ refl
 decoded-effect e TooShort r o = refuses _ refl
 decoded-effect e (DataSent a b) r o = data-effect e a b r o
@@ -350,14 +352,14 @@ decoded-effect e (DataReleased b) r o = release-effect e b o
 decoded-effect e (BindingSent a b) r o = bound-effect e a b r o
 decoded-effect e (BindingReleased a b) r o = bindingReleased-effect e a b o
 
-arrival-effect : (e : End) (w : Bool) (l : Control) (r : List ℕ) → (w ≡ true → isOpen e ≡ true) → Effect (decodedFrees l .sent) (decodedFrees l .held) e no-part (answer (guard w 6 e (decodedRule e l)) r)
+arrival-effect : (e : End) (w : Bool) (l : Control) (r : List ℕ) → (w ≡ true → isOpen e ≡ true) → Effect (arrivalChange (e .rx) r l) e no-part (answer (guard w 6 e (decodedRule e l)) r)
 arrival-effect e true l r h = decoded-effect e l r (h refl)
 arrival-effect e false l r h = refuses _ refl
 
 -- ---- each call
 
-pub effect : (e : End) (c : Call) → Effect (freedBy e c .sent) (freedBy e c .held) e (partOf c) (step e c)
-unfolding step rule lent partOf freedBy arrivalRule
+pub effect : (e : End) (c : Call) → Effect (runChange (e .tx) (e .rx) c) e (partOf c) (step e c)
+unfolding step rule lent partOf runChange arrivalRule roomQuestion viewQuestion
 effect e (start tx) = start-effect e (length tx)
 effect e (push tx c) = push-effect e tx c
 effect e (pull rx b) = pull-effect e rx (length b)
@@ -369,5 +371,5 @@ effect e (arrival rx m) = arrival-effect e (whole e (e .rx) (length rx)) (decode
 effect e (view rx s) = view-effect e (length rx) s
 effect e (done s) = done-effect e s
 effect e (register tx n) = register-effect e (length tx) n
-effect e (askRoom s n) = roomQuestion-effect e s n
-effect e (askView s n) = viewQuestion-effect e s n
+effect e (askRoom s n) = asked refl (room-effect e n s)
+effect e (askView s n) = asked refl (view-effect e n s)

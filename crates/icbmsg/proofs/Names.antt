@@ -20,7 +20,6 @@ use Rattle.blocks.specs.Search.{Search, nowhere, foundAt, isFound, firstFrom}
 use Rattle.blocks.specs.Tables.{entry, isUse, inUse, lies, starts, startsData, freeEntry, runEntry, freed, taken, blocksFor, freeRun}
 use Rattle.endpoints.specs.Endpoints.{uses, noEndpoint, noBinding, at, isUnused, isWaiting, isBound, boundAt, registered, waitingFor, holds, clashes, clashesStored, endpointAt, bindingAt, someEndpoint, someBinding, unusedFrom, goodName, waitingAt, boundNow}
 use Rattle.icbmsg.specs.Ends.{isOpen, whole, foundOr, changed}
-use Rattle.icbmsg.specs.Opening.{Opened}
 use Rattle.icbmsg.specs.declared.Opening.{Opening}
 use Rattle.icbmsg.specs.Rings.{ringOf, pushOutcome, pullOutcome, pushOf, startOf}
 use Rattle.icbmsg.specs.Messages.{reserveOf, roomOf, sendOf, dropOf, viewOf, doneOf, roomQuestion, viewQuestion}
@@ -35,7 +34,7 @@ use Rattle.icbmsg.specs.WellFormed.{bindingOf, IsKept, Separate}
 use Rattle.icbmsg.specs.Theorems.{Reached, opened, called}
 use Rattle.icbmsg.specs.Names.{endpointOf, isUsed, IsAnnounced, Once, WaitsAlone, NamesKept}
 use Rattle.blocks.proofs.LeastBlocks.{blocks-least, blocks-one}
-use Rattle.blocks.proofs.Tables.{every, use-is, Taken, its-first, its-later, apart, Freed, gone, freed-live, freed-view, taken-view, free-law}
+use Rattle.blocks.proofs.Tables.{every, use-is, Taken, its-first, its-later, apart, Freed, gone, free-at, first-entry, freed-live, freed-stays, freed-view, freed-free, taken-stays, taken-view, free-law}
 use Rattle.icbmsg.proofs.ArrivingBytes.{withName, bound-flat, data-flat}
 use Rattle.blocks.specs.Names.{Name, endless, name, nameIn, paddedName}
 use Rattle.icbmsg.proofs.RulesRead.{pull-answer}
@@ -43,7 +42,7 @@ use Rattle.blocks.proofs.Search.{first-at, lowest-at}
 use Rattle.icbmsg.proofs.Effects.{sound, whole-open}
 use Rattle.icbmsg.proofs.Separate.{Is, that, another, is, Opens, opens, shuts, how-opened, separate}
 use Rattle.icbmsg.proofs.Addresses.{address-lowest}
-use Rattle.icbmsg.proofs.Promises.{stored-holds}
+use Rattle.icbmsg.proofs.NothingAdded.{stored-holds}
 use Rattle.blocks.specs.declared.Use.{Use}
 use Rattle.blocks.specs.declared.Use.the-variants.{Reserved, SentData, SentBinding}
 use Rattle.endpoints.specs.declared.Stage.{Stage}
@@ -175,12 +174,17 @@ OnceAt test = Once test (λ p. p .address) (λ b. b .address)
 abbrev WaitsAt : List Endpoint → ℕ → ℕ → Type 0
 WaitsAt ps a i = (i < 8) × (at isWaiting (endpointOf ps i) ≡ true) × (endpointOf ps i .address ≡ a)
 
--- An initiator stores no binding, an address is one endpoint's, and each binding sent has its own, where an endpoint waits: its
--- release binds that endpoint, and leaves those of the others waiting.
+-- the binding of address a is sent in the run at s
+abbrev SentFor : List Entry → ℕ → ℕ → Type 0
+SentFor t s a = IsAnnounced t s × (entry t s .address ≡ a)
+
+-- An initiator stores no binding, an address is one endpoint's, and each binding sent has its own, where an endpoint waits, and each that
+-- waits has its binding: its release binds that endpoint, and leaves those of the others waiting.
 record Leads (t : List Entry) (ps : List Endpoint) (bs : List Binding) : Type 0 where
   none-stored : (j : ℕ) → IsKept bs j → ⊥
   addresses : OnceAt isUsed ps bs
   waiting : (s : ℕ) → IsAnnounced t s → (i : ℕ) × WaitsAt ps (entry t s .address) i
+  sent : (i : ℕ) → at isWaiting (endpointOf ps i) ≡ true → (s : ℕ) × SentFor t s (endpointOf ps i .address)
   runs : (s s′ : ℕ) → IsAnnounced t s → IsAnnounced t s′ → entry t s .address ≡ entry t s′ .address → s ≡ s′
 
 -- A follower sends no binding. Those that wait have no address yet.
@@ -211,6 +215,11 @@ bound-used Bound h = refl
 unused-not : (s : Stage) → isUnused s ≡ true → isWaiting s ≡ true → ⊥
 unused-not s h k = false≢true (rw h at (waiting-used s k))
 
+bound-not : (s : Stage) → isBound s ≡ true → isWaiting s ≡ true → ⊥
+bound-not Unused h k = false≢true h
+bound-not Waiting h k = false≢true h
+bound-not Bound h k = false≢true k
+
 -- in use: waiting or bound
 neither : (s : Stage) → (isWaiting s ≡ true → ⊥) → (isBound s ≡ true → ⊥) → not (isUnused s) ≡ true → ⊥
 neither Unused f g h = false≢true h
@@ -227,9 +236,10 @@ or-true false = refl
 not-announced : {u : Use} → u ≡ SentBinding → isUse SentBinding u ≡ false → ⊥
 not-announced {u} h k = false≢true (sym k ∙ rw h)
 
--- no binding more is sent
-fewer-sent : {r : Bool} {t t′ : List Entry} {ps : List Endpoint} {bs : List Binding} → Inv r t ps bs → ((s : ℕ) → IsAnnounced t′ s → entry t′ s ≡ entry t s) → Inv r t′ ps bs
-fewer-sent {t = t} {t′} {ps} {bs} v same = record { names = v .names; role = go (v .role) }
+-- the bindings that are sent are the same
+same-sent : {r : Bool} {t t′ : List Entry} {ps : List Endpoint} {bs : List Binding} → Inv r t ps bs →
+    ((s : ℕ) → IsAnnounced t′ s → entry t′ s ≡ entry t s) → ((s : ℕ) → IsAnnounced t s → entry t′ s ≡ entry t s) → Inv r t′ ps bs
+same-sent {t = t} {t′} {ps} {bs} v same kept = record { names = v .names; role = go (v .role) }
   where
     go : {r : Bool} → Role t ps bs r → Role t′ ps bs r
     go (leads l) =
@@ -237,6 +247,7 @@ fewer-sent {t = t} {t′} {ps} {bs} v same = record { names = v .names; role = g
           none-stored = l .none-stored;
           addresses = l .addresses;
           waiting = λ s h. let q = same s h in rw q (l .waiting s (rw q at h));
+          sent = λ i h. let z = l .sent i h in let q = kept (z .0) (z .1 .0) in (z .0, rw q (z .1));
           runs = λ s s′ h h′ q. l .runs s s′ (rw (same s h) at h) (rw (same s′ h′) at h′) (rw (same s h, same s′ h′) at q);
         })
     go (follows l) = follows (record { none-sent = λ s h. l .none-sent s (rw (same s h) at h); addresses = l .addresses })
@@ -244,12 +255,13 @@ fewer-sent {t = t} {t′} {ps} {bs} v same = record { names = v .names; role = g
 -- an initiator's endpoint i, unused before, waits at an address that no endpoint uses, and its binding is sent at s
 announced-kept : {t t′ : List Entry} {x : Entry} {n s : ℕ} {ps : List Endpoint} {bs : List Binding} → Leads t ps bs → length ps ≡ 8 → (i : ℕ) (p : Endpoint) → i < 8 → at isUnused (endpointOf ps i) ≡ true →
     at isWaiting p ≡ true → p .address ≡ x .address → ((j : ℕ) → isUsed (endpointOf ps j) ≡ true → endpointOf ps j .address ≡ p .address → ⊥) →
-    ((k : ℕ) → Taken t t′ x s n k) → Leads t′ (set ps i p) bs
-announced-kept {t} {t′} {x} {n} {s} {ps} {bs} l len i p li u pw pa unused v =
+    ((k : ℕ) → Taken t t′ x s n k) → x .usage ≡ SentBinding → entry t′ s ≡ x → ((k : ℕ) → IsAnnounced t k → entry t′ k ≡ entry t k) → Leads t′ (set ps i p) bs
+announced-kept {t} {t′} {x} {n} {s} {ps} {bs} l len i p li u pw pa unused v xs taken-here others-stay =
     record {
       none-stored = l .none-stored;
       addresses = placed-once (l .addresses) i p (omega arith) (λ _ j _ h q. unused j h q) (λ _ j k _. l .none-stored j k);
       waiting = λ k h. waiting (v k) h;
+      sent = λ j h. sent (is i j) h;
       runs = λ k k′ h h′ q. runs (v k) (v k′) h h′ q;
     }
   where
@@ -267,6 +279,15 @@ announced-kept {t} {t′} {x} {n} {s} {ps} {bs} l len i p li u pw pa unused v =
     waiting (its-later r r′ e) h = absurd (not-announced (rw e at h) refl)
     waiting {k} (apart r e) h = let w = l .waiting k (rw e at h) in (w .0, rw e (still (w .0) (w .1)))
 
+    -- the new one is sent at s, and the others where they were
+    sent : {j : ℕ} → Is i j → at isWaiting (endpointOf (set ps i p) j) ≡ true → (k : ℕ) × SentFor t′ k (endpointOf (set ps i p) j .address)
+    sent that h = (s, rw (at-i, taken-here) (xs, sym pa))
+    sent {j} (another d) h =
+        let e = getD-set-other ps i j p noEndpoint d in
+        let z = l .sent j (rw e at h) in
+        let q = others-stay (z .0) (z .1 .0) in
+        (z .0, rw (e, q) (z .1))
+
     -- an older one has another address
     older : (k : ℕ) → entry t′ k ≡ entry t k → IsAnnounced t′ k → entry t′ k .address ≡ x .address → ⊥
     older k e h q = let w = l .waiting k (rw e at h) in unused (w .0) (waiting-used (endpointOf ps (w .0) .stage) (w .1 .1)) (w .1 .2 ∙ (rw e at q) ∙ sym pa)
@@ -282,12 +303,14 @@ announced-kept {t} {t′} {x} {n} {s} {ps} {bs} l len i p li u pw pa unused v =
 
 -- an initiator's binding sent at s is released, and the endpoint that waits at its address is bound
 bound-kept : {t t′ : List Entry} {ps : List Endpoint} {bs : List Binding} → Leads t ps bs → length ps ≡ 8 → (s i : ℕ) (p : Endpoint) → IsAnnounced t s → WaitsAt ps (entry t s .address) i →
-    at isBound p ≡ true → p .address ≡ endpointOf ps i .address → ((k : ℕ) → IsAnnounced t′ k → (entry t′ k ≡ entry t k) × (s ≢ k)) → Leads t′ (set ps i p) bs
-bound-kept {t} {t′} {ps} {bs} l len s i p hs wi pb pa same =
+    at isBound p ≡ true → p .address ≡ endpointOf ps i .address → ((k : ℕ) → IsAnnounced t′ k → (entry t′ k ≡ entry t k) × (s ≢ k)) →
+    ((k : ℕ) → IsAnnounced t k → s ≢ k → entry t′ k ≡ entry t k) → Leads t′ (set ps i p) bs
+bound-kept {t} {t′} {ps} {bs} l len s i p hs wi pb pa same others-stay =
     record {
       none-stored = l .none-stored;
       addresses = changed-once (l .addresses) i p (omega (arith, wi .0)) (waiting-used (endpointOf ps i .stage) (wi .1)) pa;
       waiting = waiting;
+      sent = λ j h. sent (is i j) h;
       runs = λ k k′ h h′ q. l .runs k k′ (rw (same k h .0) at h) (rw (same k′ h′ .0) at h′) (rw (same k h .0, same k′ h′ .0) at q);
     }
   where
@@ -297,6 +320,17 @@ bound-kept {t} {t′} {ps} {bs} l len s i p hs wi pb pa same =
         let w = l .waiting k (rw e at h) in
         let d : w .0 ≢ i = λ (q : w .0 ≡ i). same k h .1 (l .runs s k hs (rw e at h) (sym (wi .2) ∙ ap (λ (j : ℕ). endpointOf ps j .address) (sym q) ∙ w .1 .2)) in
         (w .0, rw (e, getD-set-other ps i (w .0) p noEndpoint d) (w .1))
+
+    -- the one that is bound waits no more; another's binding is another run
+    sent : {j : ℕ} → Is i j → at isWaiting (endpointOf (set ps i p) j) ≡ true → (k : ℕ) × SentFor t′ k (endpointOf (set ps i p) j .address)
+    sent that h = absurd (bound-not (p .stage) pb (rw (getD-set-same ps i p noEndpoint (omega (arith, wi .0))) at h))
+    sent {j} (another d) h =
+        let e = getD-set-other ps i j p noEndpoint d in
+        let h′ : at isWaiting (endpointOf ps j) ≡ true = rw e at h in
+        let z = l .sent j h′ in
+        let apart : s ≢ z .0 = λ (q : s ≡ z .0). d (l .addresses .endpoints j i (waiting-used (endpointOf ps j .stage) h′) (waiting-used (endpointOf ps i .stage) (wi .1))
+        (sym (z .1 .1) ∙ ap (λ (k : ℕ). entry t k .address) (sym q) ∙ sym (wi .2))) in
+        (z .0, rw (e, others-stay (z .0) (z .1 .0) apart) (z .1))
 
 -- ---- the rules: each leaves an end that has it
 
@@ -362,16 +396,30 @@ module _ {e : End} (w : Separate e) (v : InvOf e) where
       let z = lowest-at (e .tx .count) (e .sent) 0 (blocksFor (e .tx .size) k) (e .tx .count) s q in
       taken-view (w .sent) (few o) u s (blocksFor (e .tx .size) k) a m (blocks-one (e .tx .size) k (wide o)) (z .room)
 
+  -- and the bindings that are sent stay
+  run-stays : (u : Use) (a k m s : ℕ) → isOpen e ≡ true → freeRun (e .tx .count) (e .sent) (blocksFor (e .tx .size) k) ≡ foundAt s → (i : ℕ) → IsAnnounced (e .sent) i →
+      entry (taken (e .sent) u s (blocksFor (e .tx .size) k) a m) i ≡ entry (e .sent) i
+  unfolding freeRun
+  run-stays u a k m s o q i h =
+      let z = lowest-at (e .tx .count) (e .sent) 0 (blocksFor (e .tx .size) k) (e .tx .count) s q in
+      taken-stays (w .sent) (run-view u a k m s o q) (λ j p r. free-at (e .sent) s (blocksFor (e .tx .size) k) j (z .free-there) p r) (blocks-one (e .tx .size) k (wide o)) i (rw h)
+
   reserve-good : (k : ℕ) → Good (reserveOf e k)
   unfolding reserveOf changed
   reserve-good k =
       checked (isOpen e) 6 λ o.
       checked (leb (blocksFor (e .tx .size) k) (e .tx .count)) 23 λ _.
       found (freeRun (e .tx .count) (e .sent) (blocksFor (e .tx .size) k)) 24 λ s q.
-      record { kept = fewer-sent v (others-taken (run-view Reserved 0 k 0 s o q) refl) }
+      record { kept = same-sent v (others-taken (run-view Reserved 0 k 0 s o q) refl) (run-stays Reserved 0 k 0 s o q) }
 
-  freed-sent : (u : Use) (s : ℕ) → isOpen e ≡ true → blockKind u ≡ leading → starts u (e .tx .count) (e .sent) s ≡ true → Inv (e .initiator) (freed (e .sent) s (entry (e .sent) s .count)) (e .endpoints) (e .bindings)
-  freed-sent u s o k h = fewer-sent v (others-freed (freed-view (w .sent) (few o) s (rw (started u (e .tx) (e .sent) s h) k)))
+  -- a run of another use freed
+  freed-sent : (u : Use) (s : ℕ) → isOpen e ≡ true → blockKind u ≡ leading → isUse SentBinding u ≡ false → starts u (e .tx .count) (e .sent) s ≡ true →
+      Inv (e .initiator) (freed (e .sent) s (entry (e .sent) s .count)) (e .endpoints) (e .bindings)
+  freed-sent u s o k d h =
+      let q = started u (e .tx) (e .sent) s h in
+      let l : Live (e .sent) s = rw q k in
+      let f = freed-view (w .sent) (few o) s l in
+      same-sent v (others-freed f) (λ i a. freed-stays (w .sent) l f i (rw a) (λ (r : s ≡ i). not-announced (rw (← r, q) at a) d))
 
   send-good : (n s a k : ℕ) → Good (sendOf e n s a k)
   unfolding sendOf changed
@@ -383,15 +431,16 @@ module _ {e : End} (w : Separate e) (v : InvOf e) where
       let o = whole-open e (e .tx) n b in
       let l : Live (e .sent) s = rw (started Reserved (e .tx) (e .sent) s h) in
       let m = blocks-least (e .tx .size) k (entry (e .sent) s .count) (leb-true (k + 4) (entry (e .sent) s .count * e .tx .size) f) (wide o) in
-      let t = taken-view (free-law (w .sent) (few o) s l) (few o) SentData s (blocksFor (e .tx .size) k) a k (blocks-one (e .tx .size) k (wide o)) (omega (arith, w .sent .within s l .1)) in
-      record { kept = fewer-sent (freed-sent Reserved s o refl h) (others-taken t refl) }
+      let one = blocks-one (e .tx .size) k (wide o) in
+      let t = taken-view (free-law (w .sent) (few o) s l) (few o) SentData s (blocksFor (e .tx .size) k) a k one (omega (arith, w .sent .within s l .1)) in
+      record { kept = same-sent (freed-sent Reserved s o refl refl h) (others-taken t refl) (λ i q. taken-stays (free-law (w .sent) (few o) s l) t (freed-free (w .sent) (few o) s _ l m) one i (rw q)) }
 
   drop-good : (s : ℕ) → Good (dropOf e s)
   unfolding dropOf changed
   drop-good s =
       checked (isOpen e) 6 λ o.
       checked (starts Reserved (e .tx .count) (e .sent) s) 25 λ h.
-      record { kept = freed-sent Reserved s o refl h }
+      record { kept = freed-sent Reserved s o refl refl h }
 
   done-good : (s : ℕ) → Good (doneOf e s)
   unfolding doneOf changed
@@ -407,11 +456,11 @@ module _ {e : End} (w : Separate e) (v : InvOf e) where
 
   roomQuestion-good : (s n : ℕ) → Good (roomQuestion e s n)
   unfolding roomQuestion
-  roomQuestion-good s n = checked (whole e (e .tx) n) 6 λ _. checked (starts Reserved (e .tx .count) (e .sent) s) 25 λ _. record { kept = v }
+  roomQuestion-good s n = record { kept = room-good n s .kept }
 
   viewQuestion-good : (s n : ℕ) → Good (viewQuestion e s n)
   unfolding viewQuestion
-  viewQuestion-good s n = checked (whole e (e .rx) n) 6 λ _. checked (startsData (e .rx .count) (e .rx .size) (e .held) s) 25 λ _. record { kept = v }
+  viewQuestion-good s n = record { kept = view-good n s .kept }
 
   -- register: no endpoint in use has the name
   abbrev Unnamed : List ℕ → Type 0
@@ -438,7 +487,9 @@ module _ {e : End} (w : Separate e) (v : InvOf e) where
           names = named-by n i p (omega arith) refl c (λ j h _. l .none-stored j h);
           role = leads (announced-kept l (w .eight) i p (omega arith) (x .0) refl refl
               (λ j h y. none-passes (uses a) noEndpoint (e .endpoints) (w .eight) refl (not-found _ low) j (rw (h, eq-eqb _ _ y)))
-              (run-view SentBinding a (length n + 1) (length n + 1) s o z));
+              (run-view SentBinding a (length n + 1) (length n + 1) s o z) refl
+              (first-entry (run-view SentBinding a (length n + 1) (length n + 1) s o z s) (blocks-one (e .tx .size) (length n + 1) (wide o)))
+              (run-stays SentBinding a (length n + 1) (length n + 1) s o z));
         });
       }
 
@@ -475,7 +526,7 @@ module _ {e : End} (w : Separate e) (v : InvOf e) where
   unfolding registerOf
   register-good l n =
       checked (whole e (e .tx) l) 6 λ b.
-      checked (goodName n) 20 λ _.
+      checked (goodName 31 n) 20 λ _.
       checked (not (someEndpoint (registered n) (e .endpoints))) 21 λ c.
       found (endpointAt (at isUnused) (e .endpoints)) 22 λ i q.
       let unnamed : Unnamed n = λ j h y. none-passes (registered n) noEndpoint (e .endpoints) (w .eight) refl (not-found _ (not-true _ c)) j (rw (h, y) (same-self (paddedName n))) in
@@ -573,14 +624,17 @@ module _ {e : End} (w : Separate e) (v : InvOf e) where
   release-good b o =
       checked (ltb b (e .tx .count)) 16 λ _.
       checked (starts SentData (e .tx .count) (e .sent) b) 25 λ h.
-      record { kept = freed-sent SentData b o refl h }
+      record { kept = freed-sent SentData b o refl refl h }
 
   -- a binding released: at an initiator, since a follower sent none
   released-kept : {r : Bool} → Role (e .sent) (e .endpoints) (e .bindings) r → (b : ℕ) (q : Search) → isOpen e ≡ true → starts SentBinding (e .tx .count) (e .sent) b ≡ true →
       endpointAt (waitingAt (entry (e .sent) b .address)) (e .endpoints) ≡ q → e .initiator ≡ r →
       Inv (e .initiator) (freed (e .sent) b (entry (e .sent) b .count)) (boundNow (e .endpoints) (entry (e .sent) b .address) q) (e .bindings)
   released-kept (follows l) b q o h z r = absurd (l .none-sent b (started SentBinding (e .tx) (e .sent) b h))
-  released-kept (leads l) b nowhere o h z r = freed-sent SentBinding b o refl h
+  released-kept (leads l) b nowhere o h z r =
+      let a : ℕ = entry (e .sent) b .address in
+      let x = l .waiting b (started SentBinding (e .tx) (e .sent) b h) in
+      absurd (none-passes (waitingAt a) noEndpoint (e .endpoints) (w .eight) refl z (x .0) (rw (x .1 .1, eq-eqb _ _ (x .1 .2))))
   released-kept (leads l) b (foundAt i) o h z r =
       let a : ℕ = entry (e .sent) b .address in
       let u = started SentBinding (e .tx) (e .sent) b h in
@@ -592,7 +646,8 @@ module _ {e : End} (w : Separate e) (v : InvOf e) where
       rw r (record {
         names = changed-once (v .names) i p (omega (arith, w .eight)) (waiting-used (endpointOf (e .endpoints) i .stage) (y .0)) refl;
         role = leads (bound-kept l (w .eight) b i p u (omega arith, y .0, at-a) refl (sym at-a)
-            (λ k s. freed-live (w .sent) live (freed-view (w .sent) (few o) b live) k (rw s)));
+            (λ k s. freed-live (w .sent) live (freed-view (w .sent) (few o) b live) k (rw s))
+            (λ k s d. freed-stays (w .sent) live (freed-view (w .sent) (few o) b live) k (rw s) d));
       })
 
   bindingReleased-good : (a b : ℕ) → isOpen e ≡ true → Good (releasedBoundOf e a b)
@@ -668,11 +723,12 @@ fresh-inv i n m k = record { names = fresh-once isUsed (λ p. p .name) (λ b. b 
           none-stored = none-kept k;
           addresses = fresh-once isUsed (λ p. p .address) (λ b. b .address) m k refl;
           waiting = λ s h. absurd (none-announced n s h);
+          sent = λ i h. absurd (false≢true (rw (all-alike noEndpoint m i) at h));
           runs = λ s s′ h. absurd (none-announced n s h);
         })
     go false = follows (record { none-sent = none-announced n; addresses = fresh-once (at isBound) (λ p. p .address) (λ b. b .address) m k refl })
 
-opened-inv : {o : Opening} {x : Opened} → Opens o x → InvOf (x .end)
+opened-inv : {o : Opening} {x : Outcome} → Opens o x → InvOf (x .next)
 opened-inv {o} (opens p q) = fresh-inv (ltb (o .rx .begin) (o .tx .begin)) 256 8 8
 opened-inv (shuts n h) = fresh-inv false 256 8 8
 
@@ -710,6 +766,16 @@ module _ {t : List Entry} {ps : List Endpoint} {bs : List Binding} where
         only = λ j u q. l .addresses .endpoints j (z .0) u (waiting-used (endpointOf ps (z .0) .stage) (w .1)) (q ∙ sym (w .2));
       }
 
--- NAMES. In every end reached no name and no address is used twice, and each binding sent is one waiting endpoint's.
+  still-sent : {r : Bool} → Role t ps bs r → r ≡ true → (i : ℕ) → at isWaiting (endpointOf ps i) ≡ true → (s : ℕ) × SentFor t s (endpointOf ps i .address)
+  still-sent (follows l) q = absurd (false≢true q)
+  still-sent (leads l) q = l .sent
+
 pub names-kept : NamesKept
-names-kept e r = let v = reached-inv r in record { announced = waits-alone (v .role); names = v .names; addresses = bound-once (v .role) }
+names-kept e r =
+    let v = reached-inv r in
+    record {
+      announced = waits-alone (v .role);
+      awaited = λ q i h. let z = still-sent (v .role) q i h in (z .0, z .1 .0, z .1 .1);
+      names = v .names;
+      addresses = bound-once (v .role);
+    }

@@ -123,4 +123,4 @@ from-any e (keep c d ∷ s) h = rw (same-step e (h .0)) (ap (λ (os : List Outco
 from-any e (insert d ∷ s) h = rw (insert-step e (h .0)) (ap (λ (os : List Outcome). ignored e ∷ os) (from-any e s (h .1)))
 
 pub newer-partner : NewerPartner
-newer-partner o s h = from-any (opening o .end) s h
+newer-partner o s h = from-any (opening o .next) s h

@@ -1,5 +1,5 @@
 -- An opening gives an open end exactly if it is accepted.
-use Prim.Native.Nat.{ℕ, _+_, _-_, _%_, _≤_}
+use Prim.Native.Nat.{ℕ, _%_, _≤_}
 use mathlib.Core.Bool.{Bool, true}
 use mathlib.Core.Path.{_≡_, refl, sym}
 use mathlib.Core.List.{List, [], _∷_, _++_}
@@ -9,8 +9,9 @@ use borrow.Author.Tests.{le-leb, lt-ltb, eq-eqb, ne-eqb}
 use Rattle.region.specs.Layout.{layout}
 use Rattle.region.proofs.AcceptedLayouts.{accepted-layouts-lie-inside}
 use Rattle.icmsg.specs.Ring.{inRule}
+use Rattle.icbmsg.specs.Outcome.{Outcome}
 use Rattle.icbmsg.specs.Ends.{soundRegion, soundEnd, isOpen}
-use Rattle.icbmsg.specs.Opening.{Opened, opening, region, freshOf}
+use Rattle.icbmsg.specs.Opening.{opening, region, freshOf}
 use Rattle.icbmsg.specs.declared.Bounds.{Bounds}
 use Rattle.icbmsg.specs.declared.Opening.{Opening}
 use Rattle.blocks.proofs.Tables.{Each, each}
@@ -31,7 +32,7 @@ each-append : (xs ys : List Bool) → Each xs → Each ys → Each (xs ++ ys)
 each-append [] ys h k = k
 each-append (x ∷ xs) ys h k = (h .0, each-append xs ys (h .1) k)
 
-opened-open : {o : Opening} {x : Opened} → Opens o x → isOpen (x .end) ≡ eqb (x .number) 0
+opened-open : {o : Opening} {x : Outcome} → Opens o x → isOpen (x .next) ≡ eqb (x .number) 0
 unfolding isOpen
 opened-open {o} (opens p q) =
     let tx = accepted-layouts-lie-inside (o .tx .begin) (o .tx .end) (o .tx .blocks) (o .rx .blocks) (o .align) p in
@@ -56,5 +57,5 @@ opened-open {o} (opens p q) =
     )
 opened-open (shuts n h) = sym (ne-eqb n 0 h)
 
-pub open-exactly : (o : Opening) → isOpen (opening o .end) ≡ eqb (opening o .number) 0
+pub open-exactly : (o : Opening) → isOpen (opening o .next) ≡ eqb (opening o .number) 0
 open-exactly o = opened-open (how-opened o)

@@ -1,5 +1,5 @@
--- A rule asks for just the receive bytes that the papers say.
-use Prim.Native.Nat.{ℕ, zero, suc, _+_, min}
+-- Every rule asks for just the receive bytes that are listed.
+use Prim.Native.Nat.{ℕ, zero, suc, min}
 use mathlib.Core.Bool.{Bool, true, false, not, _&&_}
 use mathlib.Core.Path.{_≡_, refl, ap, _∙_}
 use mathlib.Core.List.{List, [], _∷_, _++_, append-nil}
@@ -21,8 +21,8 @@ use Rattle.icbmsg.specs.Rings.{ringOf, pullOutcome, pulled, pullRule}
 use Rattle.icbmsg.specs.Arrivals.{decode, headerAt, decodedRule, arrivalRule, boundRule, boundSized, boundNamed, upToZero, fitsArea, areFree, boundTo, bindingStored, dataRule}
 use Rattle.icbmsg.specs.declared.Control.{Control}
 use Rattle.icbmsg.specs.declared.Control.the-variants.{TooShort, UnknownKind, DataSent, DataReleased, BindingSent, BindingReleased}
-use Rattle.icbmsg.specs.Calls.{Call, start, push, pull, reserve, room, send, drop, arrival, view, done, register, askRoom, askView, rule, lent, step}
-use Rattle.icbmsg.specs.Reading.{sizeIn, contentAt, zeroEnded, arrivalReads, reading}
+use Rattle.icbmsg.specs.Calls.{start, push, pull, reserve, room, send, drop, arrival, view, done, register, askRoom, askView, rule, lent, step}
+use Rattle.icbmsg.specs.Reading.{sizeIn, contentAt, zeroEnded, arrivalReads, reading, RulesRead}
 use Rattle.icbmsg.specs.End.{End}
 use Rattle.wire.proofs.Trees.{answer-unless, answer-readEach, answer-andThen, positionsRead-unless, positionsRead-andThen}
 
@@ -169,8 +169,7 @@ decoded-reads e false (DataReleased b) r = refl
 decoded-reads e false (BindingSent a b) r = refl
 decoded-reads e false (BindingReleased a b) r = refl
 
--- every rule asks for what the papers say, in this order, and for nothing else
-pub rules-read : (e : End) (c : Call) → positionsRead (rule e c) (lent c .rx) ≡ reading e c
+pub rules-read : RulesRead
 unfolding rule lent step reading arrivalRule
 rules-read e (start tx) = refl
 rules-read e (push tx c) = refl

@@ -1,23 +1,24 @@
--- A message's blocks stay its own until an accepted call frees them.
+-- A live run's blocks keep their entries until an accepted call frees or trims it.
 use Prim.Native.Nat.{ℕ, _+_, _*_, _≤_, _<_}
 use mathlib.Core.Bool.{Bool, true, false}
-use mathlib.Core.Path.{_≡_, refl, subst, _∙_}
+use mathlib.Core.Path.{_≡_, refl, _∙_}
 use mathlib.Core.List.{List, [], _∷_}
 use native.Mathlib.Omega.{arith}
 use lib.Dec.{leb}
 use lib.ListN.{length}
 use borrow.Author.Tests.{leb-true}
-use Rattle.icbmsg.specs.Outcome.{Outcome, check}
+use Rattle.icbmsg.specs.Outcome.{Given, Outcome, check}
 use Rattle.blocks.specs.Tables.{entry, starts, allFree, freed, taken, runEntry, blocksFor}
 use Rattle.endpoints.specs.Endpoints.{boundAt, someEndpoint}
 use Rattle.icbmsg.specs.Ends.{isOpen, whole, changed}
 use Rattle.icbmsg.specs.Messages.{sendOf}
-use Rattle.icbmsg.specs.Calls.{Call, rule, step}
+use Rattle.icbmsg.specs.Calls.{Call, rule, step, left}
 use Rattle.blocks.specs.WellFormed.{IsFree, Live, InRun, WellFormed}
 use Rattle.icbmsg.specs.WellFormed.{heldRun, bindingOf, Stored, Separate}
-use Rattle.icbmsg.specs.Theorems.{Part, Reached, called, left, freedBy, SentKept, HeldKept, RunsStay, SendTrims}
+use Rattle.icbmsg.specs.Theorems.{Part, Reached, called, SentTouched, HeldTouched, Untouched, RunsStay, SendTrims}
+use Rattle.icbmsg.specs.Ledger.{RunChange, runChange}
 use Rattle.blocks.proofs.Tables.{clash, Relation, below, first, later, above, relation, one-run, Taken, its-first, its-later, apart, Freed, gone, free-at, freed-view, first-entry, taken-view, free-law, live, run-of}
-use Rattle.icbmsg.proofs.Effects.{SentChange, takes, frees, trims, HeldChange, nothing, receives, finishes, stores, forgets, EndChange, stays, writes, reads, sends, keeps, Effect, refuses, accepts, sound, whole-open, size-pos, effect}
+use Rattle.icbmsg.proofs.Effects.{SentChange, takes, frees, trims, HeldChange, as-was, receives, finishes, stores, forgets, EndChange, stays, writes, reads, sends, keeps, Effect, refuses, accepts, sound, whole-open, size-pos, effect}
 use Rattle.blocks.proofs.LeastBlocks.{blocks-one, blocks-least}
 use Rattle.icbmsg.proofs.Separate.{separate}
 use Rattle.blocks.specs.declared.Use.{Use}
@@ -29,20 +30,20 @@ use Rattle.icbmsg.specs.End.{End}
 
 -- ---- a table, in which a live run starts at s and has block i
 
-module _ {c : ℕ} {good : Entry → Bool} {t : List Entry} (o : WellFormed c good t) (b : c ≤ 256) (s : ℕ) (l : Live t s) (i : ℕ) (r : InRun t s i) where
-  -- it is not free
-  not-free : IsFree t i → ⊥
-  not-free f = go (relation s (entry t s .count) i) f r
-    where
-      go : {j : ℕ} → Relation s (entry t s .count) j → IsFree t j → InRun t s j → ⊥
-      go (below h) f r = omega arith
-      go first f r = clash l f refl
-      go {j} (later h h′) f r = clash (o .others s j l h h′) f refl
-      go (above h h′) f r = omega arith
+-- it is not free
+pub not-free : {c : ℕ} {good : Entry → Bool} {t : List Entry} → WellFormed c good t → (s : ℕ) → Live t s → (i : ℕ) → InRun t s i → IsFree t i → ⊥
+not-free {t = t} o s l i r f = go (relation s (entry t s .count) i) f r
+  where
+    go : {j : ℕ} → Relation s (entry t s .count) j → IsFree t j → InRun t s j → ⊥
+    go (below h) f r = omega arith
+    go first f r = clash l f refl
+    go {j} (later h h′) f r = clash (o .others s j l h h′) f refl
+    go (above h h′) f r = omega arith
 
+module _ {c : ℕ} {good : Entry → Bool} {t : List Entry} (o : WellFormed c good t) (b : c ≤ 256) (s : ℕ) (l : Live t s) (i : ℕ) (r : InRun t s i) where
   -- a run taken of free blocks leaves it
   kept-by-taking : (u : Use) (s′ n a k : ℕ) → allFree t s′ n ≡ true → 1 ≤ n → s′ + n ≤ c → entry (taken t u s′ n a k) i ≡ entry t i
-  kept-by-taking u s′ n a k f h m = go (taken-view o b u s′ n a k h m i) not-free
+  kept-by-taking u s′ n a k f h m = go (taken-view o b u s′ n a k h m i) (not-free o s l i r)
     where
       go : {j : ℕ} → Taken t (taken t u s′ n a k) (runEntry u n a k) s′ n j → (IsFree t j → ⊥) → entry (taken t u s′ n a k) j ≡ entry t j
       go (its-first e) d = absurd (d (free-at t s′ n s′ f (omega arith) (omega arith)))
@@ -73,27 +74,27 @@ module _ {c : ℕ} {good : Entry → Bool} {t : List Entry} (o : WellFormed c go
 
 -- ---- each way that a table may change
 
-sent-kept : {F : ℕ → Type 0} {c : ℕ} {good : Entry → Bool} {t t′ : List Entry} → WellFormed c good t → c ≤ 256 → SentChange F c good t t′ →
-    (s : ℕ) → Live t s → (F s → ⊥) → (i : ℕ) → InRun t s i → entry t′ i ≡ entry t i
+sent-kept : {c : ℕ} {good : Entry → Bool} {t t′ : List Entry} {x : RunChange} → WellFormed c good t → c ≤ 256 → SentChange c good t x t′ →
+    (s : ℕ) → Live t s → (SentTouched s x → ⊥) → (i : ℕ) → InRun t s i → entry t′ i ≡ entry t i
 sent-kept o b (takes u s′ n a k su g f h m) s l d i r = kept-by-taking o b s l i r u s′ n a k f h m
-sent-kept {F} o b (frees s′ f l′) s l d i r = kept-by-freeing o b s l i r s′ l′ (λ (q : s′ ≡ s). d (subst F q f))
-sent-kept {F} o b (trims u s′ n a k f l′ su g h m) s l d i r = kept-by-trimming o b s l i r s′ l′ (λ (q : s′ ≡ s). d (subst F q f)) u n a k h m
+sent-kept o b (frees s′ l′) s l d i r = kept-by-freeing o b s l i r s′ l′ d
+sent-kept o b (trims u s′ n a k l′ su g h m) s l d i r = kept-by-trimming o b s l i r s′ l′ d u n a k h m
 
-held-kept : {G : ℕ → Type 0} {g : Region} {t t′ : List Entry} {bs bs′ : List Binding} → WellFormed (g .count) (heldRun g) t → Stored t bs → g .count ≤ 256 → HeldChange G g t bs t′ bs′ →
-    (s : ℕ) → Live t s → (G s → ⊥) → (i : ℕ) → InRun t s i → entry t′ i ≡ entry t i
-held-kept o w b nothing s l d i r = refl
+held-kept : {g : Region} {t t′ : List Entry} {bs bs′ : List Binding} {x : RunChange} → WellFormed (g .count) (heldRun g) t → Stored t bs → g .count ≤ 256 → HeldChange g t bs x t′ bs′ →
+    (s : ℕ) → Live t s → (HeldTouched s x → ⊥) → (i : ℕ) → InRun t s i → entry t′ i ≡ entry t i
+held-kept o w b as-was s l d i r = refl
 held-kept o w b (receives s′ n a k h f m x) s l d i r = kept-by-taking o b s l i r _ s′ n a k f m x
-held-kept {G} o w b (finishes s′ f h) s l d i r = kept-by-freeing o b s l i r s′ (rw h) (λ (q : s′ ≡ s). d (subst G q f))
+held-kept o w b (finishes s′ h) s l d i r = kept-by-freeing o b s l i r s′ (rw h) d
 held-kept o w b (stores s′ n a j name f m x lj z) s l d i r = kept-by-taking o b s l i r _ s′ n a 0 f m x
-held-kept {G} {bs = bs} o w b (forgets j f lj k) s l d i r =
+held-kept {bs = bs} o w b (forgets j lj k) s l d i r =
     let x = w .runs j k in
-    rw (← (x .1)) (kept-by-freeing o b s l i r (bindingOf bs j .start) (rw (x .0)) (λ (q : bindingOf bs j .start ≡ s). d (subst G q f)))
+    rw (← (x .1)) (kept-by-freeing o b s l i r (bindingOf bs j .start) (rw (x .0)) d)
 
 -- ---- a call
 
-changed-kept : {F G : ℕ → Type 0} {e e′ : End} → isOpen e ≡ true → EndChange F G e e′ → Separate e → (s : ℕ) →
-    (Live (e .sent) s → (F s → ⊥) → (i : ℕ) → InRun (e .sent) s i → entry (e′ .sent) i ≡ entry (e .sent) i)
-    × (Live (e .held) s → (G s → ⊥) → (i : ℕ) → InRun (e .held) s i → entry (e′ .held) i ≡ entry (e .held) i)
+changed-kept : {e e′ : End} {x : RunChange} → isOpen e ≡ true → EndChange e x e′ → Separate e → (s : ℕ) →
+    (Live (e .sent) s → (SentTouched s x → ⊥) → (i : ℕ) → InRun (e .sent) s i → entry (e′ .sent) i ≡ entry (e .sent) i)
+    × (Live (e .held) s → (HeldTouched s x → ⊥) → (i : ℕ) → InRun (e .held) s i → entry (e′ .held) i ≡ entry (e .held) i)
 unfolding changed
 changed-kept p stays w s = (λ l d i r. refl, λ l d i r. refl)
 changed-kept p (writes x h) w s = (λ l d i r. refl, λ l d i r. refl)
@@ -106,13 +107,13 @@ changed-kept {e = e} p (keeps ps h q) w s =
     (λ l d i r. refl, λ l d i r. held-kept (w .held) (w .stored) (omega (arith, leb-true)) h s l d i r)
 
 step-kept : (e : End) (c : Call) → Separate e → (s : ℕ) →
-    (Live (e .sent) s → (step e c .number ≡ 0 → freedBy e c .sent s → ⊥) → (i : ℕ) → InRun (e .sent) s i → entry (step e c .next .sent) i ≡ entry (e .sent) i)
-    × (Live (e .held) s → (step e c .number ≡ 0 → freedBy e c .held s → ⊥) → (i : ℕ) → InRun (e .held) s i → entry (step e c .next .held) i ≡ entry (e .held) i)
+    (Live (e .sent) s → (step e c .number ≡ 0 → SentTouched s (runChange (e .tx) (e .rx) c (step e c .given)) → ⊥) → (i : ℕ) → InRun (e .sent) s i → entry (step e c .next .sent) i ≡ entry (e .sent) i)
+    × (Live (e .held) s → (step e c .number ≡ 0 → HeldTouched s (runChange (e .tx) (e .rx) c (step e c .given)) → ⊥) → (i : ℕ) → InRun (e .held) s i → entry (step e c .next .held) i ≡ entry (e .held) i)
 step-kept e c w s = go (effect e c) w
   where
-    go : {F G : ℕ → Type 0} {p : Part} {o : Outcome} → Effect F G e p o → Separate e →
-        (Live (e .sent) s → (o .number ≡ 0 → F s → ⊥) → (i : ℕ) → InRun (e .sent) s i → entry (o .next .sent) i ≡ entry (e .sent) i)
-        × (Live (e .held) s → (o .number ≡ 0 → G s → ⊥) → (i : ℕ) → InRun (e .held) s i → entry (o .next .held) i ≡ entry (e .held) i)
+    go : {f : Given → RunChange} {p : Part} {o : Outcome} → Effect f e p o → Separate e →
+        (Live (e .sent) s → (o .number ≡ 0 → SentTouched s (f (o .given)) → ⊥) → (i : ℕ) → InRun (e .sent) s i → entry (o .next .sent) i ≡ entry (e .sent) i)
+        × (Live (e .held) s → (o .number ≡ 0 → HeldTouched s (f (o .given)) → ⊥) → (i : ℕ) → InRun (e .held) s i → entry (o .next .held) i ≡ entry (e .held) i)
     go (refuses n h) w = (λ l d i r. refl, λ l d i r. refl)
     go (accepts z o p m) w =
         let k = changed-kept o m w s in
@@ -123,7 +124,7 @@ step-kept e c w s = go (effect e c) w
 own-start : {c : ℕ} {good : Entry → Bool} {t : List Entry} → WellFormed c good t → (s : ℕ) → Live t s → InRun t s s
 own-start o s l = omega (arith, o .within s l .0)
 
-sent-through : (e : End) → Reached e → (s : ℕ) (cs : List Call) → Live (e .sent) s → SentKept e s cs → (i : ℕ) → InRun (e .sent) s i → entry (left e cs .sent) i ≡ entry (e .sent) i
+sent-through : (e : End) → Reached e → (s : ℕ) (cs : List Call) → Live (e .sent) s → Untouched (SentTouched s) e cs → (i : ℕ) → InRun (e .sent) s i → entry (left e cs .sent) i ≡ entry (e .sent) i
 sent-through e x s [] l k i r = refl
 sent-through e x s (c ∷ cs) l k i r =
     let w = separate e x in
@@ -131,7 +132,7 @@ sent-through e x s (c ∷ cs) l k i r =
     let q = f s (own-start (w .sent) s l) in
     sent-through (step e c .next) (called c x) s cs (rw q l) (k .1) i (rw q r) ∙ f i r
 
-held-through : (e : End) → Reached e → (s : ℕ) (cs : List Call) → Live (e .held) s → HeldKept e s cs → (i : ℕ) → InRun (e .held) s i → entry (left e cs .held) i ≡ entry (e .held) i
+held-through : (e : End) → Reached e → (s : ℕ) (cs : List Call) → Live (e .held) s → Untouched (HeldTouched s) e cs → (i : ℕ) → InRun (e .held) s i → entry (left e cs .held) i ≡ entry (e .held) i
 held-through e x s [] l k i r = refl
 held-through e x s (c ∷ cs) l k i r =
     let w = separate e x in
@@ -139,8 +140,8 @@ held-through e x s (c ∷ cs) l k i r =
     let q = f s (own-start (w .held) s l) in
     held-through (step e c .next) (called c x) s cs (rw q l) (k .1) i (rw q r) ∙ f i r
 
-pub runs-stay-until-freed : RunsStay
-runs-stay-until-freed e x s cs = (sent-through e x s cs, held-through e x s cs)
+pub runs-stay-until-touched : RunsStay
+runs-stay-until-touched e x s cs = (sent-through e x s cs, held-through e x s cs)
 
 -- ---- a send
 

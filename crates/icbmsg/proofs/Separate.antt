@@ -10,18 +10,19 @@ use lib.ListN.{set, replicate, length-set, length-replicate}
 use lib.Seq.{getD-set-same, getD-set-other}
 use borrow.Author.Tests.{eqb-true, eqb-false, leb-true}
 use Rattle.wire.specs.Choice.{pick}
-use Rattle.icbmsg.specs.Outcome.{Outcome}
+use Rattle.icbmsg.specs.Outcome.{Given, nothing, Outcome, accepted}
 use Rattle.blocks.specs.Tables.{entry, freeEntry}
 use Rattle.endpoints.specs.Endpoints.{noBinding, noEndpoint}
 use Rattle.icbmsg.specs.Ends.{isOpen, changed}
-use Rattle.icbmsg.specs.Opening.{Opened, opening, region, noRegion, fresh, freshOf, closedWith, txLayout, rxLayout}
+use Rattle.icbmsg.specs.Opening.{opening, region, noRegion, fresh, freshOf, closedWith, txLayout, rxLayout}
 use Rattle.icbmsg.specs.declared.Opening.{Opening}
-use Rattle.icbmsg.specs.Calls.{Call, step}
+use Rattle.icbmsg.specs.Calls.{Call, step, left}
+use Rattle.icbmsg.specs.Ledger.{RunChange}
 use Rattle.blocks.specs.WellFormed.{leading, blockKind, IsFree, Live, InRun, WellFormed}
 use Rattle.icbmsg.specs.WellFormed.{sentRun, heldRun, bindingOf, IsStored, IsKept, Stored, Separate}
-use Rattle.icbmsg.specs.Theorems.{Part, Reached, opened, called, left, Covered, Separated, RunsDisjoint, BlocksCovered}
+use Rattle.icbmsg.specs.Theorems.{Part, Reached, opened, called, Covered, Separated, RunsDisjoint, BlocksCovered}
 use Rattle.blocks.proofs.Tables.{clash, one-run, Taken, its-first, its-later, apart, freed-live, freed-stays, taken-first, taken-stays, freed-view, taken-view, free-at, free-law, take-law, trim-law, fresh-entry, fresh-well-formed}
-use Rattle.icbmsg.proofs.Effects.{SentChange, takes, frees, trims, HeldChange, nothing, receives, finishes, stores, forgets, EndChange, writes, sends, keeps, Effect, refuses, accepts, sound, effect, stays, reads}
+use Rattle.icbmsg.proofs.Effects.{SentChange, takes, frees, trims, HeldChange, as-was, receives, finishes, stores, forgets, EndChange, writes, sends, keeps, Effect, refuses, accepts, sound, effect, stays, reads}
 use Rattle.blocks.specs.declared.Use.{Use}
 use Rattle.blocks.specs.declared.Use.the-variants.{Free, Inside, Reserved, SentData, SentBinding, ReceivedData, StoredBinding}
 use Rattle.blocks.specs.declared.Entry.{Entry}
@@ -143,17 +144,17 @@ module _ {t t′ : List Entry} {bs : List Binding} (w : Stored t bs) (j : ℕ) (
 
 -- ---- the laws, for each way that an end may change
 
-turned : {F : ℕ → Type 0} {c : ℕ} {good : Entry → Bool} {t t′ : List Entry} → WellFormed c good t → c ≤ 256 → SentChange F c good t t′ → WellFormed c good t′
+turned : {c : ℕ} {good : Entry → Bool} {t t′ : List Entry} {d : RunChange} → WellFormed c good t → c ≤ 256 → SentChange c good t d t′ → WellFormed c good t′
 turned {t = t} o b (takes u s n a k su g f l m) = take-law o b u s n a k su g (λ i p q. free-at t s n i f p q) l m
-turned o b (frees s f l) = free-law o b s l
-turned o b (trims u s n a k f l su g h m) = trim-law o b u s n a k l su g h m
+turned o b (frees s l) = free-law o b s l
+turned o b (trims u s n a k l su g h m) = trim-law o b u s n a k l su g h m
 
-kept-table : {G : ℕ → Type 0} {g : Region} {t t′ : List Entry} {bs bs′ : List Binding} → WellFormed (g .count) (heldRun g) t → Stored t bs → g .count ≤ 256 → HeldChange G g t bs t′ bs′ → WellFormed (g .count) (heldRun g) t′
-kept-table o w b nothing = o
+kept-table : {g : Region} {t t′ : List Entry} {bs bs′ : List Binding} {d : RunChange} → WellFormed (g .count) (heldRun g) t → Stored t bs → g .count ≤ 256 → HeldChange g t bs d t′ bs′ → WellFormed (g .count) (heldRun g) t′
+kept-table o w b as-was = o
 kept-table {t = t} o w b (receives s n a k h f l m) = take-law o b ReceivedData s n a k refl h (λ i p q. free-at t s n i f p q) l m
-kept-table o w b (finishes s f h) = free-law o b s (rw h)
+kept-table o w b (finishes s h) = free-law o b s (rw h)
 kept-table {t = t} o w b (stores s n a j name f l m lj z) = take-law o b StoredBinding s n a 0 refl refl (λ i p q. free-at t s n i f p q) l m
-kept-table {bs = bs} o w b (forgets j f lj k) = let r = w .runs j k in rw (← (r .1)) (free-law o b (bindingOf bs j .start) (stored-live (r .0)))
+kept-table {bs = bs} o w b (forgets j lj k) = let r = w .runs j k in rw (← (r .1)) (free-law o b (bindingOf bs j .start) (stored-live (r .0)))
 
 -- two uses that differ
 differ : (u : Use) → u ≡ ReceivedData → u ≡ StoredBinding → ⊥
@@ -170,12 +171,12 @@ not-data {x = x} (its-first e) d h = absurd (differ (x .usage) d (rw e at h))
 not-data (its-later p q e) d h = absurd (clash (stored-live (rw e at h)) refl refl)
 not-data (apart p e) d h = e
 
-kept-stored : {G : ℕ → Type 0} {g : Region} {t t′ : List Entry} {bs bs′ : List Binding} → WellFormed (g .count) (heldRun g) t → Stored t bs → g .count ≤ 256 → HeldChange G g t bs t′ bs′ → Stored t′ bs′
-kept-stored o w b nothing = w
+kept-stored : {g : Region} {t t′ : List Entry} {bs bs′ : List Binding} {d : RunChange} → WellFormed (g .count) (heldRun g) t → Stored t bs → g .count ≤ 256 → HeldChange g t bs d t′ bs′ → Stored t′ bs′
+kept-stored o w b as-was = w
 kept-stored {t = t} o w b (receives s n a k h f l m) =
     let v = taken-view o b ReceivedData s n a k l m in
     same-stored w (λ i q. taken-stays o v (λ j p r. free-at t s n j f p r) l i (stored-live q)) (λ i q. not-data (v i) refl q)
-kept-stored {t = t} o w b (finishes s f h) =
+kept-stored {t = t} o w b (finishes s h) =
     let l : Live t s = rw h in
     let v = freed-view o b s l in
     same-stored w (λ i q. freed-stays o l v i (stored-live q) (λ (r : s ≡ i). differ (entry t i .usage) (rw r at h) q)) (λ i q. freed-live o l v i (stored-live q) .0)
@@ -185,14 +186,14 @@ kept-stored {t = t} o w b (stores s n a j name f l m lj z) =
     let e = taken-first o v fr l in
     more-stored w (record { stored = true; address = a; start = s; count = n; name = name }) j lj z refl (fr s (omega arith) (omega arith)) (rw e (refl, refl))
     (taken-stays o v fr l) (λ i d q. old-run (v i) d q)
-kept-stored {t = t} {bs = bs} o w b (forgets j f lj k) =
+kept-stored {t = t} {bs = bs} o w b (forgets j lj k) =
     let r = w .runs j k in
     let s : ℕ = bindingOf bs j .start in
     let l : Live t s = stored-live (r .0) in
     let v = freed-view o b s l in
     rw (← (r .1)) (less-stored w j lj k (freed-stays o l v) (freed-live o l v))
 
-moved : {F G : ℕ → Type 0} {e e′ : End} → isOpen e ≡ true → EndChange F G e e′ → Separate e → Separate e′
+moved : {e e′ : End} {d : RunChange} → isOpen e ≡ true → EndChange e d e′ → Separate e → Separate e′
 unfolding changed
 moved p stays w = w
 moved p (writes x h) w = record { sent = w .sent; held = w .held; stored = w .stored; eight = w .eight }
@@ -209,7 +210,7 @@ moved {e} p (keeps ps h q) w =
 pub stays-separate : (e : End) (c : Call) → Separate e → Separate (step e c .next)
 stays-separate e c w = go (effect e c) w
   where
-    go : {F G : ℕ → Type 0} {p : Part} {o : Outcome} → Effect F G e p o → Separate e → Separate (o .next)
+    go : {f : Given → RunChange} {p : Part} {o : Outcome} → Effect f e p o → Separate e → Separate (o .next)
     go (refuses n h) w = w
     go (accepts z o p m) w = moved o m w
 
@@ -239,8 +240,8 @@ fresh-separate i a g h =
     }
 
 -- an opening: accepted with these tests passed, or refused
-pub data Opens (o : Opening) : Opened → Type 0 where
-  opens : txLayout o .number ≡ 0 → rxLayout o .number ≡ 0 → Opens o (record { number = 0; end = freshOf o })
+pub data Opens (o : Opening) : Outcome → Type 0 where
+  opens : txLayout o .number ≡ 0 → rxLayout o .number ≡ 0 → Opens o (accepted (freshOf o) nothing)
   shuts : (n : ℕ) → n ≢ 0 → Opens o (closedWith n)
 
 pub how-opened : (o : Opening) → Opens o (opening o)
@@ -248,13 +249,13 @@ unfolding opening
 how-opened o = go (eqb (txLayout o .number) 0) (eqb (rxLayout o .number) 0) (leb (o .tx .end) (o .rx .begin) || leb (o .rx .end) (o .tx .begin)) refl refl
   where
     go : (t r d : Bool) → eqb (txLayout o .number) 0 ≡ t → eqb (rxLayout o .number) 0 ≡ r →
-        Opens o (pick t (pick r (pick d (record { number = 0; end = freshOf o }) (closedWith 5)) (closedWith (rxLayout o .number))) (closedWith (txLayout o .number)))
+        Opens o (pick t (pick r (pick d (accepted (freshOf o) nothing) (closedWith 5)) (closedWith (rxLayout o .number))) (closedWith (txLayout o .number)))
     go true true true p q = opens (eqb-true (txLayout o .number) 0 p) (eqb-true (rxLayout o .number) 0 q)
     go true true false p q = shuts 5 (omega arith)
     go true false d p q = shuts (rxLayout o .number) (eqb-false (rxLayout o .number) 0 q)
     go false r d p q = shuts (txLayout o .number) (eqb-false (txLayout o .number) 0 p)
 
-opened-separate : {o : Opening} {x : Opened} → Opens o x → Separate (x .end)
+opened-separate : {o : Opening} {x : Outcome} → Opens o x → Separate (x .next)
 opened-separate {o} (opens p q) =
     fresh-separate (ltb (o .rx .begin) (o .tx .begin)) (o .align) (region (o .tx) (txLayout o)) (region (o .rx) (rxLayout o))
 opened-separate (shuts n h) = fresh-separate false 0 noRegion noRegion

@@ -8,11 +8,11 @@ use Rattle.wire.specs.Choice.{pick}
 use Rattle.wire.specs.Bytes.{fromLittleEndian, straight, positions, bytesAt}
 use Rattle.wire.specs.Reads.{gives, reads, readEach}
 use Rattle.blocks.specs.declared.Entry.{Entry}
-use Rattle.icbmsg.specs.Outcome.{Outcome, refused, accepted, Rule, check, guard}
+use Rattle.icbmsg.specs.Outcome.{nothing, control, delivery, Outcome, refused, accepted, Rule, check, guard}
 use Rattle.blocks.specs.Search.{Search, nowhere, foundAt}
 use Rattle.blocks.specs.Tables.{entry, starts, allFree, freed, taken, blocksFor}
 use Rattle.icbmsg.specs.Ends.{blockAt, whole, foundOr, changed, withSent, withHeld}
-use Rattle.endpoints.specs.Endpoints.{at, boundAt, waitingFor, waitingAt, boundNow, clashes, clashesStored, endpointAt, bindingAt, someEndpoint, someBinding}
+use Rattle.endpoints.specs.Endpoints.{boundAt, waitingFor, waitingAt, boundNow, clashes, clashesStored, endpointAt, bindingAt, someEndpoint, someBinding}
 use Rattle.blocks.specs.Names.{paddedName}
 use Rattle.icbmsg.specs.Registering.{become}
 use Rattle.blocks.specs.declared.Use.the-variants.{SentData, SentBinding, ReceivedData, StoredBinding}
@@ -55,14 +55,14 @@ dataRule e a b =
     (readEach (headerAt (e .rx) b) (λ h. let k : ℕ = fromLittleEndian h in
     guard (fitsArea (e .rx) b k) 17 e
     (guard (areFree (e .held) (e .rx) b k) 18 e
-    (gives (accepted (withHeld e (taken (e .held) ReceivedData b (blocksFor (e .rx .size) k) a k)) (a ∷ b ∷ k ∷ []))))))))
+    (gives (accepted (withHeld e (taken (e .held) ReceivedData b (blocksFor (e .rx .size) k) a k)) (delivery a b k))))))))
 
 -- kind 1: "16, 25"; "frees a sent data message". "A partner's release frees the count recorded privately"
 unfoldable pub releaseOf : End → ℕ → Outcome
 releaseOf e b =
     check (ltb b (e .tx .count)) 16 e
     (check (starts SentData (e .tx .count) (e .sent) b) 25 e
-    (accepted (withSent e (freed (e .sent) b (entry (e .sent) b .count))) []))
+    (accepted (withSent e (freed (e .sent) b (entry (e .sent) b .count))) nothing))
 
 -- kind 3: "14, 16, 25"; "frees a sent binding of that address; its endpoint is bound"
 unfoldable pub releasedBoundOf : End → ℕ → ℕ → Outcome
@@ -73,7 +73,7 @@ releasedBoundOf e a b =
     (accepted
     (changed e (e .write) (e .read) (freed (e .sent) b (entry (e .sent) b .count)) (e .held)
     (boundNow (e .endpoints) a (endpointAt (waitingAt a) (e .endpoints))) (e .bindings))
-    [])))
+    nothing)))
 
 -- "else name, address, start and count are stored, not K, and its blocks are held": n blocks, the padded name, at place j
 abbrev pub bindingStored : End → ℕ → ℕ → ℕ → List ℕ → ℕ → Outcome
@@ -81,7 +81,7 @@ bindingStored e a b n kept j =
     accepted
     (changed e (e .write) (e .read) (e .sent) (taken (e .held) StoredBinding b n a 0) (e .endpoints)
     (set (e .bindings) j (record { stored = true; address = a; start = b; count = n; name = kept })))
-    []
+    nothing
 
 abbrev pub storedAt : End → ℕ → ℕ → ℕ → List ℕ → Outcome
 storedAt e a b n kept = foundOr 22 e (bindingStored e a b n kept) (bindingAt (λ x. not (x .stored)) (e .bindings))
@@ -90,7 +90,7 @@ storedAt e a b n kept = foundOr 22 e (bindingStored e a b n kept) (bindingAt (λ
 abbrev pub boundTo : End → ℕ → ℕ → ℕ → List ℕ → Search → Outcome
 boundTo e a b n name nowhere = storedAt e a b n (paddedName name)
 boundTo e a b n name (foundAt i) =
-    accepted (changed e (e .write) (e .read) (e .sent) (e .held) (become e i Bound a name) (e .bindings)) (3 ∷ a ∷ b ∷ [])
+    accepted (changed e (e .write) (e .read) (e .sent) (e .held) (become e i Bound a name) (e .bindings)) (control 3 a b)
 
 -- 20, 21, 22, with the name
 unfoldable pub boundNamed : End → ℕ → ℕ → ℕ → List ℕ → Outcome

@@ -78,3 +78,8 @@ step e c = answer (rule e c) (lent c .rx)
 unfoldable pub run : End → List Call → List Outcome
 run e [] = []
 run e (c ∷ cs) = step e c ∷ run (step e c .next) cs
+
+-- and the end that they leave
+abbrev pub left : End → List Call → End
+left e [] = e
+left e (c ∷ cs) = left (step e c .next) cs

@@ -8,8 +8,12 @@ pub mod Registering
 pub mod Arrivals
 pub mod Calls
 pub mod Reading
+pub mod Ledger
 pub mod WellFormed
 pub mod Theorems
+pub mod Places
 pub mod Names
 pub mod NewerPartner
 pub mod BenchCases
+pub mod NewerPartnerExample
+pub mod Promises

@@ -1,22 +1,28 @@
 -- The rules of the calls on messages: reserve, room, send, drop, view, done, and the two questions (01, "Blocks and framing").
 use Prim.Native.Nat.{ℕ, _+_, _-_, _*_}
-use mathlib.Core.List.{[], _∷_}
 use lib.Dec.{leb}
 use Rattle.wire.specs.Bytes.{littleEndian, straight, writes}
-use Rattle.icbmsg.specs.Outcome.{Outcome, accepted, written, placed, check}
+use Rattle.icbmsg.specs.Outcome.{nothing, aRun, control, Outcome, accepted, written, placed, withoutPlace, check}
 use Rattle.blocks.specs.Tables.{entry, starts, startsData, freed, taken, blocksFor, freeRun}
 use Rattle.icbmsg.specs.Ends.{blockAt, isOpen, whole, foundOr, withSent, withHeld}
 use Rattle.endpoints.specs.Endpoints.{boundAt, someEndpoint}
 use Rattle.blocks.specs.declared.Use.the-variants.{Reserved, SentData}
 use Rattle.icbmsg.specs.End.{End}
 
--- "Reserve takes the lowest start with enough consecutive free blocks and returns start and count. Checks 23, then 24"
+-- the blocks that K bytes need
+abbrev pub need : End → ℕ → ℕ
+need e k = blocksFor (e .tx .size) k
+
+-- "Checks 23 (more than L blocks needed), then 24": what is done with "the lowest start with enough consecutive free blocks" for K bytes
+abbrev pub reserving : End → ℕ → (ℕ → Outcome) → Outcome
+reserving e k f = check (leb (need e k) (e .tx .count)) 23 e (foundOr 24 e f (freeRun (e .tx .count) (e .sent) (need e k)))
+
+-- "Reserve takes the lowest start with enough consecutive free blocks and returns start and count"
+abbrev pub reservation : End → ℕ → ℕ → Outcome
+reservation e k s = accepted (withSent e (taken (e .sent) Reserved s (need e k) 0 0)) (aRun s (need e k))
+
 unfoldable pub reserveOf : End → ℕ → Outcome
-reserveOf e k =
-    check (isOpen e) 6 e
-    (let n : ℕ = blocksFor (e .tx .size) k in
-    check (leb n (e .tx .count)) 23 e
-    (foundOr 24 e (λ s. accepted (withSent e (taken (e .sent) Reserved s n 0 0)) (s ∷ n ∷ [])) (freeRun (e .tx .count) (e .sent) n)))
+reserveOf e k = check (isOpen e) 6 e (reserving e k (reservation e k))
 
 -- "the writable part after its header, to the end of its last block"; n bytes are lent
 unfoldable pub roomOf : End → ℕ → ℕ → Outcome
@@ -33,14 +39,14 @@ sendOf e n s a k =
     (check (someEndpoint (boundAt a) (e .endpoints)) 15 e
     (check (leb (k + 4) (entry (e .sent) s .count * e .tx .size)) 23 e
     (written (withSent e (taken (freed (e .sent) s (entry (e .sent) s .count)) SentData s (blocksFor (e .tx .size) k) a k))
-    (0 ∷ a ∷ s ∷ []) (writes (straight (blockAt (e .tx) s)) (littleEndian 4 k))))))
+    (control 0 a s) (writes (straight (blockAt (e .tx) s)) (littleEndian 4 k))))))
 
 -- "Drop frees a reservation not yet sent, else 25"
 unfoldable pub dropOf : End → ℕ → Outcome
 dropOf e s =
     check (isOpen e) 6 e
     (check (starts Reserved (e .tx .count) (e .sent) s) 25 e
-    (accepted (withSent e (freed (e .sent) s (entry (e .sent) s .count))) []))
+    (accepted (withSent e (freed (e .sent) s (entry (e .sent) s .count))) nothing))
 
 -- "A view asked for later uses the recorded K; where no received data message starts, 25"
 unfoldable pub viewOf : End → ℕ → ℕ → Outcome
@@ -54,11 +60,11 @@ unfoldable pub doneOf : End → ℕ → Outcome
 doneOf e s =
     check (isOpen e) 6 e
     (check (startsData (e .rx .count) (e .rx .size) (e .held) s) 25 e
-    (accepted (withHeld e (freed (e .held) s (entry (e .held) s .count))) (1 ∷ 0 ∷ s ∷ [])))
+    (accepted (withHeld e (freed (e .held) s (entry (e .held) s .count))) (control 1 0 s)))
 
 -- "a separate question on the start and the slice's length answers 6, 25 or accepted"
 unfoldable pub roomQuestion : End → ℕ → ℕ → Outcome
-roomQuestion e s n = check (whole e (e .tx) n) 6 e (check (starts Reserved (e .tx .count) (e .sent) s) 25 e (accepted e []))
+roomQuestion e s n = withoutPlace (roomOf e n s)
 
 unfoldable pub viewQuestion : End → ℕ → ℕ → Outcome
-viewQuestion e s n = check (whole e (e .rx) n) 6 e (check (startsData (e .rx .count) (e .rx .size) (e .held) s) 25 e (accepted e []))
+viewQuestion e s n = withoutPlace (viewOf e n s)

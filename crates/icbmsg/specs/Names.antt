@@ -40,8 +40,10 @@ pub record WaitsAlone (ps : List Endpoint) (a : ℕ) : Type 0 where
   pub only : (j : ℕ) → isUsed (endpointOf ps j) ≡ true → endpointOf ps j .address ≡ a → j ≡ index
 
 pub record NamesAndAddresses (e : End) : Type 0 where
-  -- the address of each binding sent is that of one waiting endpoint
+  -- the address of each binding sent is that of one waiting endpoint, and each waiting endpoint of an initiator has its binding still sent
   pub announced : (s : ℕ) → IsAnnounced (e .sent) s → WaitsAlone (e .endpoints) (entry (e .sent) s .address)
+  pub awaited : e .initiator ≡ true → (i : ℕ) → at isWaiting (endpointOf (e .endpoints) i) ≡ true →
+      (s : ℕ) × IsAnnounced (e .sent) s × (entry (e .sent) s .address ≡ endpointOf (e .endpoints) i .address)
   -- no name is used twice, by endpoints in use and stored bindings
   pub names : Once isUsed (λ p. p .name) (λ b. b .name) (e .endpoints) (e .bindings)
   -- no address is used twice, by bound endpoints and stored bindings

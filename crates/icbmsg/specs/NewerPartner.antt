@@ -81,5 +81,5 @@ withIgnored e (insert d ∷ s) os = ignored e ∷ withIgnored e s os
 -- DEMAND 3. From any opening, whatever calls are kept, changed and put in: the second run has the first run's outcomes,
 -- and an ignored one at each call put in.
 abbrev pub NewerPartner : Type 0
-NewerPartner = (o : Opening) (s : List Item) → Allowed (opening o .end) s →
-    run (opening o .end) (secondCalls s) ≡ withIgnored (opening o .end) s (run (opening o .end) (firstCalls s))
+NewerPartner = (o : Opening) (s : List Item) → Allowed (opening o .next) s →
+    run (opening o .next) (secondCalls s) ≡ withIgnored (opening o .next) s (run (opening o .next) (firstCalls s))

@@ -1,16 +1,18 @@
 -- The receive bytes that each call reads, as 01 lists them, by what the call answers.
 use Prim.Native.Nat.{ℕ, zero, suc, _+_, min}
+use mathlib.Core.Path.{_≡_}
 use mathlib.Core.List.{List, [], _∷_, _++_}
 use lib.Dec.{eqb}
 use lib.ListN.{length, getD}
 use Rattle.wire.specs.Choice.{pick}
+use Rattle.wire.specs.Reads.{positionsRead}
 use Rattle.icmsg.specs.Reading.{past, pullReads}
 use Rattle.icbmsg.specs.Ends.{blockAt}
 use Rattle.icbmsg.specs.Rings.{ringOf}
 use Rattle.icbmsg.specs.Arrivals.{decode, headerAt, sizeAt}
 use Rattle.icbmsg.specs.declared.Control.{Control}
 use Rattle.icbmsg.specs.declared.Control.the-variants.{TooShort, UnknownKind, DataSent, DataReleased, BindingSent, BindingReleased}
-use Rattle.icbmsg.specs.Calls.{Call, start, push, pull, reserve, room, send, drop, arrival, view, done, register, askRoom, askView, step}
+use Rattle.icbmsg.specs.Calls.{Call, start, push, pull, reserve, room, send, drop, arrival, view, done, register, askRoom, askView, rule, lent, step}
 use Rattle.icbmsg.specs.End.{End}
 
 -- K of the message in receive block b, and where its content begins
@@ -50,3 +52,7 @@ reading e (done s) = []
 reading e (register tx n) = []
 reading e (askRoom s n) = []
 reading e (askView s n) = []
+
+-- THE STATEMENT: every rule asks for just these, in this order
+abbrev pub RulesRead : Type 0
+RulesRead = (e : End) (c : Call) → positionsRead (rule e c) (lent c .rx) ≡ reading e c

@@ -2,14 +2,14 @@
 use Prim.Native.Nat.{ℕ, _+_}
 use mathlib.Core.Bool.{not}
 use mathlib.Core.List.{List, [], _∷_, _++_}
-use lib.Dec.{leb}
 use lib.ListN.{length, getD, set}
 use Rattle.wire.specs.Choice.{pick}
 use Rattle.wire.specs.Bytes.{littleEndian, straight, writes}
-use Rattle.icbmsg.specs.Outcome.{Outcome, accepted, written, check}
+use Rattle.icbmsg.specs.Outcome.{nothing, control, Outcome, accepted, written, check}
 use Rattle.blocks.specs.Search.{Search, nowhere, foundAt}
-use Rattle.blocks.specs.Tables.{freed, taken, blocksFor, freeRun}
+use Rattle.blocks.specs.Tables.{freed, taken}
 use Rattle.icbmsg.specs.Ends.{blockAt, whole, foundOr, changed}
+use Rattle.icbmsg.specs.Messages.{need, reserving}
 use Rattle.endpoints.specs.Endpoints.{noBinding, isUnused, at, registered, holds, endpointAt, bindingAt, someEndpoint, unusedFrom, goodName}
 use Rattle.blocks.specs.Names.{paddedName}
 use Rattle.blocks.specs.declared.Use.the-variants.{SentBinding}
@@ -23,12 +23,12 @@ use Rattle.icbmsg.specs.End.{End}
 abbrev pub become : End → ℕ → Stage → ℕ → List ℕ → List Endpoint
 become e i s a n = set (e .endpoints) i (record { stage = s; address = a; name = paddedName n })
 
--- "The initiator .. writes header, name and zero, answers 02 address start, and waits until kind 3": run s of b blocks
-abbrev pub announcement : End → List ℕ → ℕ → ℕ → ℕ → ℕ → Outcome
-announcement e n i a b s =
+-- "The initiator .. writes header, name and zero, answers 02 address start, and waits until kind 3": at block s
+abbrev pub announcement : End → List ℕ → ℕ → ℕ → ℕ → Outcome
+announcement e n i a s =
     written
-    (changed e (e .write) (e .read) (taken (e .sent) SentBinding s b a (length n + 1)) (e .held) (become e i Waiting a n) (e .bindings))
-    (2 ∷ a ∷ s ∷ []) (writes (straight (blockAt (e .tx) s)) (littleEndian 4 (length n + 1) ++ n ++ (0 ∷ [])))
+    (changed e (e .write) (e .read) (taken (e .sent) SentBinding s (need e (length n + 1)) a (length n + 1)) (e .held) (become e i Waiting a n) (e .bindings))
+    (control 2 a s) (writes (straight (blockAt (e .tx) s)) (littleEndian 4 (length n + 1) ++ n ++ (0 ∷ [])))
 
 -- "unless a stored binding has the name: then it is bound to that address, the stored binding is forgotten, its blocks are freed, and it
 -- answers 03 address start": stored binding b, at place j
@@ -36,28 +36,25 @@ abbrev pub boundToStored : End → List ℕ → ℕ → ℕ → Binding → Outc
 boundToStored e n i j b =
     accepted
     (changed e (e .write) (e .read) (e .sent) (freed (e .held) (b .start) (b .count)) (become e i Bound (b .address) n) (set (e .bindings) j noBinding))
-    (3 ∷ b .address ∷ b .start ∷ [])
+    (control 3 (b .address) (b .start))
 
 -- "The follower waits"
 abbrev pub waits : End → List ℕ → ℕ → Outcome
-waits e n i = accepted (changed e (e .write) (e .read) (e .sent) (e .held) (become e i Waiting 0 n) (e .bindings)) []
+waits e n i = accepted (changed e (e .write) (e .read) (e .sent) (e .held) (become e i Waiting 0 n) (e .bindings)) nothing
 
 abbrev pub followed : End → List ℕ → ℕ → Search → Outcome
 followed e n i nowhere = waits e n i
 followed e n i (foundAt j) = boundToStored e n i j (getD (e .bindings) j noBinding)
 
--- "gives the lowest unused address, then reserves (23, 24)"
+-- "gives the lowest unused address, then reserves (23, 24)": the name and its zero
 unfoldable pub initiates : End → List ℕ → ℕ → Outcome
-initiates e n i =
-    check (leb (blocksFor (e .tx .size) (length n + 1)) (e .tx .count)) 23 e
-    (foundOr 24 e (λ s. announcement e n i (unusedFrom 8 0 (e .endpoints)) (blocksFor (e .tx .size) (length n + 1)) s)
-    (freeRun (e .tx .count) (e .sent) (blocksFor (e .tx .size) (length n + 1))))
+initiates e n i = reserving e (length n + 1) (announcement e n i (unusedFrom 8 0 (e .endpoints)))
 
 -- "Register checks 20, 21, 22": l bytes are lent, the name is n
 unfoldable pub registerOf : End → ℕ → List ℕ → Outcome
 registerOf e l n =
     check (whole e (e .tx) l) 6 e
-    (check (goodName n) 20 e
+    (check (goodName 31 n) 20 e
     (check (not (someEndpoint (registered n) (e .endpoints))) 21 e
     (foundOr 22 e
     (λ i. pick (e .initiator) (initiates e n i) (followed e n i (bindingAt (holds (e .rx .count) n) (e .bindings))))

@@ -1,12 +1,12 @@
 -- The rules of the calls on the rings: start, push and pull.
 use Prim.Native.Nat.{ℕ}
-use mathlib.Core.List.{List, [], _∷_}
+use mathlib.Core.List.{List, []}
 use lib.ListN.{length}
 use Rattle.wire.specs.Choice.{pick}
 use Rattle.wire.specs.Reads.{gives, unless, andThen}
 use Rattle.icmsg.specs.Rules.{Outcome as RingOutcome, Answer, refused as ringNo, accepted as ringYes, pushRule as ringPush, startRule as ringStart, pullRule as ringPull}
 use Rattle.icmsg.specs.declared.Ring.{Ring}
-use Rattle.icbmsg.specs.Outcome.{Outcome, ringRefused, written, Rule}
+use Rattle.icbmsg.specs.Outcome.{aLength, Outcome, ringRefused, written, Rule}
 use Rattle.icbmsg.specs.Ends.{whole, withWrite, withRead}
 use Rattle.icbmsg.specs.declared.Region.{Region}
 use Rattle.icbmsg.specs.End.{End}
@@ -18,12 +18,12 @@ ringOf a g = record { begin = g .base; align = a; size = g .ring }
 -- what the ring answered on the transmit side: its writes ws, and the end's own write index moved on
 abbrev pub pushOutcome : End → List (ℕ × ℕ) → Answer → Outcome
 pushOutcome e ws (ringNo n) = ringRefused e n
-pushOutcome e ws (ringYes k i) = written (withWrite e i) (k ∷ []) ws
+pushOutcome e ws (ringYes k i) = written (withWrite e i) (aLength k) ws
 
 -- and on the receive side
 abbrev pub pullOutcome : End → List (ℕ × ℕ) → List (ℕ × ℕ) → Answer → Outcome
 pullOutcome e ws bs (ringNo n) = ringRefused e n
-pullOutcome e ws bs (ringYes k i) = record { number = 0; values = k ∷ []; begin = 0; size = 0; tx = []; rx = ws; buffer = bs; next = withRead e i }
+pullOutcome e ws bs (ringYes k i) = record { number = 0; given = aLength k; begin = 0; size = 0; tx = []; rx = ws; buffer = bs; next = withRead e i }
 
 abbrev pub pushed : End → RingOutcome → Outcome
 pushed e o = pushOutcome e (o .region) (o .answer)

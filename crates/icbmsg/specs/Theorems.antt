@@ -5,70 +5,55 @@ use mathlib.Core.Path.{_≡_}
 use mathlib.Core.Logic.{_≢_, _↔_}
 use mathlib.Core.List.{List, [], _∷_}
 use lib.Dec.{eqb}
-use Rattle.wire.specs.Bytes.{same, Inside}
-use Rattle.icbmsg.specs.Outcome.{Outcome, refusedWith, refused, accepted}
-use Rattle.blocks.specs.Search.{foundAt}
-use Rattle.blocks.specs.Tables.{entry, starts, startsData, runEntry, taken, blocksFor, inUse}
-use Rattle.endpoints.specs.Endpoints.{bindingAt, at, isUnused, someEndpoint, uses, unusedFrom, holds}
-use Rattle.blocks.specs.Names.{paddedName}
-use Rattle.icbmsg.specs.Ends.{isOpen, withSent}
-use Rattle.icbmsg.specs.Opening.{opening}
-use Rattle.icbmsg.specs.declared.Opening.{Opening}
-use Rattle.icbmsg.specs.Arrivals.{decode}
-use Rattle.icbmsg.specs.declared.Control.{Control}
-use Rattle.icbmsg.specs.declared.Control.the-variants.{TooShort, UnknownKind, DataSent, DataReleased, BindingSent, BindingReleased}
-use Rattle.icbmsg.specs.Calls.{Call, start, push, pull, reserve, room, send, drop, arrival, view, done, register, askRoom, askView, lent, step}
-use Rattle.blocks.specs.WellFormed.{Live, InRun, IsFree}
-use Rattle.icbmsg.specs.WellFormed.{bindingOf, Separate}
 use lib.ListN.{length}
+use Rattle.wire.specs.Bytes.{same}
+use Rattle.blocks.specs.Search.{foundAt}
+use Rattle.blocks.specs.Tables.{entry, starts, startsData, runEntry, blocksFor, inUse}
+use Rattle.blocks.specs.Names.{paddedName}
+use Rattle.blocks.specs.WellFormed.{Live, InRun, IsFree}
 use Rattle.blocks.specs.declared.Use.the-variants.{Free, Reserved, SentData, SentBinding, ReceivedData}
 use Rattle.blocks.specs.declared.Entry.{Entry}
+use Rattle.endpoints.specs.Endpoints.{at, isUnused, registered, endpointAt, someEndpoint, uses, unusedFrom, holds, goodName}
 use Rattle.endpoints.specs.declared.Endpoint.{Endpoint}
-use Rattle.icbmsg.specs.declared.Region.{Region}
+use Rattle.icbmsg.specs.Outcome.{Given, nothing, aLength, Outcome, refusedWith, refused}
+use Rattle.icbmsg.specs.Ends.{isOpen, whole}
+use Rattle.icbmsg.specs.Opening.{opening}
+use Rattle.icbmsg.specs.declared.Opening.{Opening}
+use Rattle.icbmsg.specs.Messages.{need, reservation}
+use Rattle.icbmsg.specs.Registering.{announcement}
+use Rattle.icbmsg.specs.Calls.{Call, start, push, pull, reserve, room, send, drop, arrival, view, done, register, askRoom, askView, step, left}
+use Rattle.icbmsg.specs.Ledger.{RunChange, no-change, sent-takes, sent-trims, sent-frees, held-takes, held-frees, runChange}
+use Rattle.icbmsg.specs.WellFormed.{bindingOf, Separate}
 use Rattle.icbmsg.specs.End.{End}
 
 -- ---- ends that are reached
 
 -- what an opening gives is reached, and what a call leaves of an end that is
 pub data Reached : End → Type 0 where
-  opened : (o : Opening) → Reached (opening o .end)
+  opened : (o : Opening) → Reached (opening o .next)
   called : {e : End} (c : Call) → Reached e → Reached (step e c .next)
 
--- the end that calls leave
-abbrev pub left : End → List Call → End
-left e [] = e
-left e (c ∷ cs) = left (step e c .next) cs
-
--- what a call hands out beside its number: the length of a ring call, a part of a region, or neither
+-- what a call hands out beside its number: the length of a ring call, a part of the message at s, or neither
 pub data Part : Type 0 where
-  no-part length-part room-part view-part : Part
+  no-part length-part : Part
+  room-part view-part : (s : ℕ) → Part
 
-abbrev pub refusedValues : Part → List ℕ
-refusedValues no-part = []
-refusedValues length-part = 0 ∷ []
-refusedValues room-part = []
-refusedValues view-part = []
-
--- it lies inside the region's blocks
-abbrev pub InBlocks : Region → Outcome → Type 0
-InBlocks g o = (g .blocks ≤ o .begin) × (o .begin + o .size ≤ g .blocks + g .count * g .size)
-
-abbrev pub PartIn : End → Part → Outcome → Type 0
-PartIn e no-part o = (o .begin ≡ 0) × (o .size ≡ 0)
-PartIn e length-part o = (o .begin ≡ 0) × (o .size ≡ 0)
-PartIn e room-part o = InBlocks (e .tx) o
-PartIn e view-part o = InBlocks (e .rx) o
+abbrev pub refusedGiven : Part → Given
+refusedGiven no-part = nothing
+refusedGiven length-part = aLength 0
+refusedGiven (room-part s) = nothing
+refusedGiven (view-part s) = nothing
 
 unfoldable pub partOf : Call → Part
 partOf (start tx) = length-part
 partOf (push tx c) = length-part
 partOf (pull rx b) = length-part
 partOf (reserve k) = no-part
-partOf (room tx s) = room-part
+partOf (room tx s) = room-part s
 partOf (send tx s a k) = no-part
 partOf (drop s) = no-part
 partOf (arrival rx m) = no-part
-partOf (view rx s) = view-part
+partOf (view rx s) = view-part s
 partOf (done s) = no-part
 partOf (register tx n) = no-part
 partOf (askRoom s n) = no-part
@@ -76,10 +61,10 @@ partOf (askView s n) = no-part
 
 -- ---- demand 1: refusals
 
--- An outcome whose number is not 0 is that number and nothing else: no place, no write, the end as it was, and no value but a ring
--- call's length 0.
+-- An outcome whose number is not 0 is that number and nothing else: no place, no write, the end as it was, and nothing that comes with it
+-- but a ring call's length 0.
 abbrev pub Refusals : Type 0
-Refusals = (e : End) (c : Call) → step e c .number ≢ 0 → step e c ≡ refusedWith (refusedValues (partOf c)) e (step e c .number)
+Refusals = (e : End) (c : Call) → step e c .number ≢ 0 → step e c ≡ refusedWith (refusedGiven (partOf c)) e (step e c .number)
 
 -- ---- open ends
 
@@ -99,22 +84,11 @@ OpenStays = (e : End) (c : Call) → isOpen (step e c .next) ≡ isOpen e
 
 -- a closed end answers 6 to every call
 abbrev pub ClosedSix : Type 0
-ClosedSix = (e : End) (c : Call) → isOpen e ≡ false → step e c ≡ refusedWith (refusedValues (partOf c)) e 6
+ClosedSix = (e : End) (c : Call) → isOpen e ≡ false → step e c ≡ refusedWith (refusedGiven (partOf c)) e 6
 
 -- after any calls an end is open exactly if its opening was accepted
 abbrev pub OpenExactly : Type 0
-OpenExactly = (o : Opening) (cs : List Call) → isOpen (left (opening o .end) cs) ≡ eqb (opening o .number) 0
-
--- ---- demand 1: parts and writes lie inside
-
--- The part that an accepted call hands out lies inside its region's blocks: a room's in the transmit region, a view's in the receive
--- region. Every other call hands out none.
-abbrev pub PartsInside : Type 0
-PartsInside = (e : End) (c : Call) → step e c .number ≡ 0 → PartIn e (partOf c) (step e c)
-
--- every write of every call, at any end, lies inside the slice that it goes to
-abbrev pub WritesInside : Type 0
-WritesInside = (e : End) (c : Call) → Inside (length (lent c .tx)) (step e c .tx) × Inside (length (lent c .rx)) (step e c .rx) × Inside (length (lent c .buffer)) (step e c .buffer)
+OpenExactly = (o : Opening) (cs : List Call) → isOpen (left (opening o .next) cs) ≡ eqb (opening o .number) 0
 
 -- ---- demand 1: live runs share no block
 
@@ -138,69 +112,34 @@ BlocksCovered = (e : End) → Reached e → Covered (e .sent) × Covered (e .hel
 
 -- ---- demand 1: a message's blocks stay its own
 
-abbrev pub noRun : ℕ → Type 0
-noRun s = ⊥
+-- it frees or trims the run at s, of the transmit blocks, and of the receive blocks
+abbrev pub SentTouched : ℕ → RunChange → Type 0
+SentTouched s no-change = ⊥
+SentTouched s (sent-takes x n) = ⊥
+SentTouched s (sent-trims x n) = x ≡ s
+SentTouched s (sent-frees x) = x ≡ s
+SentTouched s (held-takes x n) = ⊥
+SentTouched s (held-frees x) = ⊥
 
-abbrev pub thisRun : ℕ → ℕ → Type 0
-thisRun s x = x ≡ s
+abbrev pub HeldTouched : ℕ → RunChange → Type 0
+HeldTouched s no-change = ⊥
+HeldTouched s (sent-takes x n) = ⊥
+HeldTouched s (sent-trims x n) = ⊥
+HeldTouched s (sent-frees x) = ⊥
+HeldTouched s (held-takes x n) = ⊥
+HeldTouched s (held-frees x) = x ≡ s
 
--- the live runs that an accepted call frees or trims, by their starts, in the transmit and in the receive blocks
-pub record Frees : Type 1 where
-  pub sent : ℕ → Type 0
-  pub held : ℕ → Type 0
+-- none of these calls, one after the other, is accepted and does so
+abbrev pub Untouched : (RunChange → Type 0) → End → List Call → Type 0
+Untouched f e [] = Unit {0}
+Untouched f e (c ∷ cs) = (step e c .number ≡ 0 → f (runChange (e .tx) (e .rx) c (step e c .given)) → ⊥) × Untouched f (step e c .next) cs
 
-abbrev pub freesNone : Frees
-freesNone = record { sent = noRun; held = noRun }
-
-abbrev pub freesSent : ℕ → Frees
-freesSent s = record { sent = thisRun s; held = noRun }
-
-abbrev pub freesHeld : (ℕ → Type 0) → Frees
-freesHeld f = record { sent = noRun; held = f }
-
-abbrev pub decodedFrees : Control → Frees
-decodedFrees UnknownKind = freesNone
-decodedFrees TooShort = freesNone
-decodedFrees (DataSent a b) = freesNone
-decodedFrees (DataReleased b) = freesSent b
-decodedFrees (BindingSent a b) = freesNone
-decodedFrees (BindingReleased a b) = freesSent b
-
--- of a register, the stored binding that has its name
-abbrev pub freedByName : End → List ℕ → ℕ → Type 0
-freedByName e n x = (j : ℕ) × (bindingAt (holds (e .rx .count) n) (e .bindings) ≡ foundAt j) × (bindingOf (e .bindings) j .start ≡ x)
-
-unfoldable pub freedBy : End → Call → Frees
-freedBy e (start tx) = freesNone
-freedBy e (push tx c) = freesNone
-freedBy e (pull rx b) = freesNone
-freedBy e (reserve k) = freesNone
-freedBy e (room tx s) = freesNone
-freedBy e (send tx s a k) = freesSent s
-freedBy e (drop s) = freesSent s
-freedBy e (arrival rx m) = decodedFrees (decode m)
-freedBy e (view rx s) = freesNone
-freedBy e (done s) = freesHeld (thisRun s)
-freedBy e (register tx n) = freesHeld (freedByName e n)
-freedBy e (askRoom s n) = freesNone
-freedBy e (askView s n) = freesNone
-
--- none of these calls, one after the other, is accepted and frees the run
-abbrev pub SentKept : End → ℕ → List Call → Type 0
-SentKept e s [] = Unit {0}
-SentKept e s (c ∷ cs) = (step e c .number ≡ 0 → freedBy e c .sent s → ⊥) × SentKept (step e c .next) s cs
-
-abbrev pub HeldKept : End → ℕ → List Call → Type 0
-HeldKept e s [] = Unit {0}
-HeldKept e s (c ∷ cs) = (step e c .number ≡ 0 → freedBy e c .held s → ⊥) × HeldKept (step e c .next) s cs
-
--- A message's blocks stay its own, from the accepted call that took them to the accepted call that frees them: whatever calls and
--- bytes come between, each of its blocks has the entry that it had, so that none is handed out again.
+-- Whatever calls and bytes come: as long as no accepted call frees or trims a live run, each of its blocks has the entry that it had.
 abbrev pub RunsStay : Type 0
 RunsStay =
     (e : End) → Reached e → (s : ℕ) (cs : List Call) →
-    (Live (e .sent) s → SentKept e s cs → (i : ℕ) → InRun (e .sent) s i → entry (left e cs .sent) i ≡ entry (e .sent) i)
-    × (Live (e .held) s → HeldKept e s cs → (i : ℕ) → InRun (e .held) s i → entry (left e cs .held) i ≡ entry (e .held) i)
+    (Live (e .sent) s → Untouched (SentTouched s) e cs → (i : ℕ) → InRun (e .sent) s i → entry (left e cs .sent) i ≡ entry (e .sent) i)
+    × (Live (e .held) s → Untouched (HeldTouched s) e cs → (i : ℕ) → InRun (e .held) s i → entry (left e cs .held) i ≡ entry (e .held) i)
 
 -- A send keeps its reservation: it starts where it did, with as many of its blocks as K needs.
 abbrev pub SendTrims : Type 0
@@ -230,30 +169,39 @@ AddressLowest = (ps : List Endpoint) → length ps ≡ 8 → someEndpoint (at is
 
 -- ---- demand 2: no room
 
--- n free transmit blocks from s on
-abbrev pub FreeRun : End → ℕ → ℕ → Type 0
-FreeRun e n s = (s + n ≤ e .tx .count) × ((i : ℕ) → s ≤ i → i < s + n → IsFree (e .sent) i)
-
--- the blocks that K bytes need
-abbrev pub need : End → ℕ → ℕ
-need e k = blocksFor (e .tx .size) k
-
 -- the least number of blocks that hold K + 4 bytes
 abbrev pub NeedLeast : Type 0
 NeedLeast = (e : End) (k : ℕ) → isOpen e ≡ true → (k + 4 ≤ need e k * e .tx .size) × ((n : ℕ) → k + 4 ≤ n * e .tx .size → need e k ≤ n)
 
--- what a reserve answers
-pub data Reserves (e : End) (k : ℕ) : Outcome → Type 0 where
-  too-long : e .tx .count < need e k → Reserves e k (refused e 23)
-  no-room : need e k ≤ e .tx .count → ((s : ℕ) → FreeRun e (need e k) s → ⊥) → Reserves e k (refused e 24)
-  at-lowest : (s : ℕ) → need e k ≤ e .tx .count → FreeRun e (need e k) s → ((i : ℕ) → i < s → FreeRun e (need e k) i → ⊥) →
-      Reserves e k (accepted (withSent e (taken (e .sent) Reserved s (need e k) 0 0)) (s ∷ need e k ∷ []))
+-- n free transmit blocks from s on
+abbrev pub FreeRun : End → ℕ → ℕ → Type 0
+FreeRun e n s = (s + n ≤ e .tx .count) × ((i : ℕ) → s ≤ i → i < s + n → IsFree (e .sent) i)
 
--- at an open end one of these is so, and the number says which
-abbrev pub ReserveSays : Type 0
-ReserveSays = (e : End) (k : ℕ) → isOpen e ≡ true → Reserves e k (step e (reserve k))
+-- K bytes could fit an empty area, but no free run is long enough
+pub record Crowded (e : End) (k : ℕ) : Type 0 where
+  pub could-fit : need e k ≤ e .tx .count
+  pub no-run : (s : ℕ) → FreeRun e (need e k) s → ⊥
 
--- 24 exactly when the need is at most the count and no run of that many free blocks exists
-abbrev pub NoRoom : Type 0
-NoRoom = (e : End) (k : ℕ) → isOpen e ≡ true →
-    (step e (reserve k) .number ≡ 24) ↔ ((need e k ≤ e .tx .count) × ((s : ℕ) → FreeRun e (need e k) s → ⊥))
+-- What reserving K bytes gives, where f is what is done with the run: too long, no room, or the lowest run.
+pub data Reserves (e : End) (k : ℕ) (f : ℕ → Outcome) : Outcome → Type 0 where
+  too-long : e .tx .count < need e k → Reserves e k f (refused e 23)
+  no-room : Crowded e k → Reserves e k f (refused e 24)
+  at-lowest : (s : ℕ) → need e k ≤ e .tx .count → FreeRun e (need e k) s → ((i : ℕ) → i < s → FreeRun e (need e k) i → ⊥) → Reserves e k f (f s)
+
+-- a register that has passed its earlier checks (6, 20, 21, 22), at an initiator; entry i is for the endpoint
+pub record Registers (e : End) (tx n : List ℕ) (i : ℕ) : Type 0 where
+  pub lent : whole e (e .tx) (length tx) ≡ true
+  pub name : goodName 31 n ≡ true
+  pub unregistered : someEndpoint (registered n) (e .endpoints) ≡ false
+  pub place : endpointAt (at isUnused) (e .endpoints) ≡ foundAt i
+  pub initiator : e .initiator ≡ true
+
+pub record ReserveSays : Type 0 where
+  pub reserve : (e : End) (k : ℕ) → isOpen e ≡ true → Reserves e k (reservation e k) (step e (reserve k))
+  pub register : (e : End) (tx n : List ℕ) (i : ℕ) → Registers e tx n i →
+      Reserves e (length n + 1) (announcement e n i (unusedFrom 8 0 (e .endpoints))) (step e (register tx n))
+
+-- 24 exactly when the earlier checks have passed and the area is crowded
+pub record NoRoom : Type 0 where
+  pub reserve : (e : End) (k : ℕ) → (step e (reserve k) .number ≡ 24) ↔ ((isOpen e ≡ true) × Crowded e k)
+  pub register : (e : End) (tx n : List ℕ) → (step e (register tx n) .number ≡ 24) ↔ ((i : ℕ) × Registers e tx n i × Crowded e (length n + 1))

@@ -30,9 +30,9 @@ data-low g i j = omega arith
 size-some : {n : ℕ} {g : Ring} {i : ℕ} → Sound n g i → 0 < g .size
 size-some s = omega (arith, s .below)
 
--- and inside the region
-pub data-inside : (n : ℕ) (g : Ring) (o i j : ℕ) → Sound n g o → from g i j < n
-data-inside n g o i j s = omega (arith, s .inside, mod-lt (i + j) (size-some s))
+-- and before the end of the data
+pub data-high : (n : ℕ) (g : Ring) (o i j : ℕ) → Sound n g o → from g i j < dataAt g + g .size
+data-high n g o i j s = omega (arith, mod-lt (i + j) (size-some s))
 
 -- the place at the write index w is that at the read index r, as many bytes further on as are used
 pub further-on : (g : Ring) (r w j : ℕ) → r < g .size → w < g .size → from g w j ≡ from g r (used (g .size) r w + j)
@@ -68,7 +68,7 @@ module _ (s : List ℕ) (g : Ring) (w : ℕ) (c : List ℕ) (o : Sound (length s
       rw (← length-packet c)
       (bytes-kept (withPacket s g w c) (straight (writeIndexAt g)) (from g w) (littleEndian 4 (behind (g .size) w (length c))) (length (packet c))
       (λ i j _ lt e. omega (arith, e, data-low g w i))
-      ∙ bytes-read-back s (from g w) (packet c) (λ j lt. data-inside (length s) g w w j o)
+      ∙ bytes-read-back s (from g w) (packet c) (λ j lt. omega (arith, o .inside, data-high (length s) g w w j o))
       (λ i j lt below e. wrapped-apart (dataAt g) (g .size) w i j lt (omega (arith, length-packet c, o .below)) e))
 
   part : (m k : ℕ) → m + k ≤ packetLength (length c) → bytes (withIndex s g w c) (λ j. from g w (m + j)) k ≡ take k (drop m (packet c))

@@ -1,7 +1,6 @@
 // A line of output, put together before it is written. What does not fit is left out.
 use blocks::Entry;
 use blocks::Use;
-use icmsg::RingAnswer;
 use refusal::Refusal;
 
 const WIDTH: usize = 160;
@@ -153,13 +152,6 @@ impl Line {
         line.text(b", ").counted(length, b"byte")
     }
 
-    pub fn ring_answer(self, a: RingAnswer) -> Line {
-        match a {
-            RingAnswer::Refused(x) => self.refused(x),
-            RingAnswer::Accepted { length, index } => self.accepted().packet(length, index),
-        }
-    }
-
     pub fn packet(self, length: u32, index: u32) -> Line {
         let line = self.to(VALUES).counted(length, b"byte");
         line.text(b", own index ").number(index)
@@ -211,9 +203,9 @@ impl Line {
     // ---- tables
 
     // A letter for each of the first `count` blocks.
-    pub fn table(self, entries: [Entry; 256], count: u16) -> Line {
+    pub fn table(self, entries: [Entry; blocks::BLOCKS], count: u16) -> Line {
         let mut line = self.text(b" [");
-        let end = wire::least(count as usize, 256);
+        let end = wire::least(count as usize, blocks::BLOCKS);
         let mut i = 0;
         while i < end {
             let x = entries[i];

@@ -2,7 +2,7 @@
 use Prim.Native.Nat.{ℕ, _+_, _*_, _≤_, _<_, min}
 use mathlib.Core.Bool.{Bool, true, false, not, _&&_, _||_}
 use mathlib.Core.Path.{_≡_, refl, sym, ap, _∙_}
-use mathlib.Core.List.{List, [], _∷_}
+use mathlib.Core.List.{List}
 use native.Mathlib.Omega.{arith}
 use lib.Dec.{leb, ltb}
 use lib.ListN.{length, set}
@@ -21,7 +21,7 @@ use Rattle.endpoints.specs.Endpoints.{boundAt, waitingAt, waitingFor, clashes, 
 use Rattle.blocks.specs.Names.{Name, endless, name, nameIn, paddedName}
 use Rattle.endpoints.specs.declared.Endpoint.{Endpoint}
 use Rattle.endpoints.specs.declared.Stage.the-variants.{Bound}
-use Rattle.icbmsg.specs.Outcome.{Outcome, refused, accepted, check}
+use Rattle.icbmsg.specs.Outcome.{nothing, control, delivery, Outcome, refused, accepted, check}
 use Rattle.icbmsg.specs.Ends.{isOpen, whole, changed, withSent, withHeld}
 use Rattle.icbmsg.specs.Arrivals.{decode, fitsArea, areFree, sizeAt, dataRule, releaseOf, releasedBoundOf, storedAt, boundNamed, boundRule, decodedRule, arrivalRule}
 use Rattle.checks.specs.Measuring.{placeNumber, measuredNumber, MeasuredAs, areLent}
@@ -81,7 +81,7 @@ module _ (e : End) (a b : ℕ) (r : List ℕ) where
           data-flat e a b r ∙ rw (le-leb a 0xFD h, i, l) (three-checks (ltb b (e .rx .count)) (fitsArea (e .rx) b k) (areFree (e .held) (e .rx) b k) e (received e a b k))
 
 pub received-now : (e : End) (o : Outcome) (a b k m c : ℕ) (t : List Entry) → o ≡ received e a b k → m ≡ k → c ≡ blocksFor (e .rx .size) k →
-    t ≡ taken (e .held) ReceivedData b c a m → accepted (withHeld e t) (a ∷ b ∷ m ∷ []) ≡ o
+    t ≡ taken (e .held) ReceivedData b c a m → accepted (withHeld e t) (delivery a b m) ≡ o
 received-now e o a b k m c t h i j l = rw (h, l, j, i)
 
 -- ---- kinds 1 and 3
@@ -97,7 +97,7 @@ module _ (e : End) (b : ℕ) where
     release-25 k = rw (k, lt-ltb b (e .tx .count) h)
 
     pub release-ok : (x : Entry) (t : List Entry) → (x ≡ entry (e .sent) b) × (starts SentData (e .tx .count) (e .sent) b ≡ true) → t ≡ freed (e .sent) b (x .count) →
-        accepted (withSent e t) [] ≡ releaseOf e b
+        accepted (withSent e t) nothing ≡ releaseOf e b
     unfolding releaseOf
     release-ok x t k p = rw (k .1, lt-ltb b (e .tx .count) h, p, k .0)
 
@@ -122,7 +122,7 @@ module _ (e : End) (a b : ℕ) where
         unbind-other d = rw (le-leb a 0xFD h, l .1, lt-ltb b (e .tx .count) k, ← (l .0), ne-eqb (x .address) a d)
 
         pub unbind-ok : (t : List Entry) (ps : List Endpoint) → x .address ≡ a → t ≡ freed (e .sent) b (x .count) → ps ≡ boundNow (e .endpoints) a (endpointAt (waitingAt a) (e .endpoints)) →
-            accepted (changed e (e .write) (e .read) t (e .held) ps (e .bindings)) [] ≡ releasedBoundOf e a b
+            accepted (changed e (e .write) (e .read) t (e .held) ps (e .bindings)) nothing ≡ releasedBoundOf e a b
         unfolding releasedBoundOf
         unbind-ok t ps d p q = rw (le-leb a 0xFD h, l .1, lt-ltb b (e .tx .count) k, ← (l .0), eq-eqb (x .address) a d, p, q)
 
@@ -133,7 +133,7 @@ module _ (e : End) (a b n : ℕ) (kept : List ℕ) where
   store-22 h = rw h
 
   pub store-ok : (j : ℕ) (t : List Entry) → bindingAt (λ x. not (x .stored)) (e .bindings) ≡ foundAt j → t ≡ taken (e .held) StoredBinding b n a 0 →
-      accepted (changed e (e .write) (e .read) (e .sent) t (e .endpoints) (set (e .bindings) j (record { stored = true; address = a; start = b; count = n; name = kept }))) [] ≡ storedAt e a b n kept
+      accepted (changed e (e .write) (e .read) (e .sent) t (e .endpoints) (set (e .bindings) j (record { stored = true; address = a; start = b; count = n; name = kept }))) nothing ≡ storedAt e a b n kept
   store-ok j t h p = rw (h, p)
 
 neither : (x y : Bool) → (x || y) ≡ false → (x ≡ false) × (y ≡ false)
@@ -161,7 +161,7 @@ module _ (e : End) (a b n : ℕ) (its : List ℕ) where
 
     module _ (k : (x || y) ≡ false) where
       pub bind-waiting : (i : ℕ) (kept : List ℕ) → endpointAt (waitingFor its) (e .endpoints) ≡ foundAt i → kept ≡ paddedName its →
-          accepted (changed e (e .write) (e .read) (e .sent) (e .held) (set (e .endpoints) i (record { stage = Bound; address = a; name = kept })) (e .bindings)) (3 ∷ a ∷ b ∷ []) ≡ boundNamed e a b n its
+          accepted (changed e (e .write) (e .read) (e .sent) (e .held) (set (e .endpoints) i (record { stage = Bound; address = a; name = kept })) (e .bindings)) (control 3 a b) ≡ boundNamed e a b n its
       unfolding boundNamed
       bind-waiting i kept w l = let z = neither x y k in rw (le-leb 1 (length its) h, ← p, ← q, z .0, z .1, w, l)
 

@@ -1,8 +1,8 @@
 -- The calls on messages: each way out of a rule, by the facts that the code has there.
 use Prim.Native.Nat.{ℕ, _+_, _-_, _*_, _≤_, _<_}
-use mathlib.Core.Bool.{true, false}
+use mathlib.Core.Bool.{Bool, true, false}
 use mathlib.Core.Path.{_≡_, refl}
-use mathlib.Core.List.{List, [], _∷_}
+use mathlib.Core.List.{List}
 use native.Mathlib.Omega.{arith}
 use native.Mathlib.Nat.{mul-le-mul-right}
 use lib.ListN.{take, drop}
@@ -15,9 +15,9 @@ use Rattle.blocks.specs.declared.Use.the-variants.{Reserved, SentData}
 use Rattle.blocks.specs.declared.Entry.{Entry}
 use Rattle.blocks.proofs.Tables.{Run, run-of, data-run}
 use Rattle.endpoints.specs.Endpoints.{boundAt, someEndpoint}
-use Rattle.icbmsg.specs.Outcome.{Outcome, refused, accepted, written, placed, withoutWrites}
+use Rattle.icbmsg.specs.Outcome.{nothing, aRun, control, Outcome, refused, accepted, written, placed, withoutWrites, check}
 use Rattle.icbmsg.specs.Ends.{isOpen, whole, blockAt, withSent, withHeld}
-use Rattle.icbmsg.specs.Messages.{reserveOf, roomOf, sendOf, dropOf, viewOf, doneOf, roomQuestion, viewQuestion}
+use Rattle.icbmsg.specs.Messages.{reserveOf, roomOf, sendOf, dropOf, viewOf, doneOf}
 use Rattle.link.proofs.OpenSays.{Sound, open-says, run-inside, whole-says}
 use Rattle.icbmsg.specs.declared.Region.{Region}
 use Rattle.icbmsg.specs.End.{End}
@@ -45,9 +45,9 @@ module _ (e : End) (k : ℕ) where
       reserve-24 f = rw (h, ← q, le-leb m (e .tx .count) l, f)
 
       pub reserve-ok : (s : ℕ) (t : List Entry) → freeRun (e .tx .count) (e .sent) m ≡ foundAt s → t ≡ taken (e .sent) Reserved s m 0 0 →
-          accepted (withSent e t) (s ∷ m ∷ []) ≡ reserveOf e k
+          accepted (withSent e t) (aRun s m) ≡ reserveOf e k
       unfolding reserveOf
-      reserve-ok s t f p = rw (h, ← q, le-leb m (e .tx .count) l, f, p)
+      reserve-ok s t f p = rw (h, ← q, le-leb m (e .tx .count) l, f, ← q, p)
 
 -- ---- drop and done
 
@@ -66,7 +66,7 @@ module _ (e : End) (s : ℕ) where
     drop-25 k = rw (h, k)
 
     pub drop-ok : (x : Entry) (t : List Entry) → (x ≡ entry (e .sent) s) × (starts Reserved (e .tx .count) (e .sent) s ≡ true) → t ≡ freed (e .sent) s (x .count) →
-        accepted (withSent e t) [] ≡ dropOf e s
+        accepted (withSent e t) nothing ≡ dropOf e s
     unfolding dropOf
     drop-ok x t k p = rw (h, k .1, p, k .0)
 
@@ -75,47 +75,40 @@ module _ (e : End) (s : ℕ) where
     done-25 k = rw (h, k)
 
     pub done-ok : (x : Entry) (t : List Entry) → (x ≡ entry (e .held) s) × (startsData (e .rx .count) (e .rx .size) (e .held) s ≡ true) → t ≡ freed (e .held) s (x .count) →
-        accepted (withHeld e t) (1 ∷ 0 ∷ s ∷ []) ≡ doneOf e s
+        accepted (withHeld e t) (control 1 0 s) ≡ doneOf e s
     unfolding doneOf
     done-ok x t k p = rw (h, k .1, p, k .0)
 
--- ---- rooms and views: the questions, and the parts
+-- ---- rooms and views
 
 module _ (e : End) (n s : ℕ) where
-  pub room-6 : whole e (e .tx) n ≡ false → (roomOf e n s ≡ refused e 6) × (refused e 6 ≡ roomQuestion e s n)
-  unfolding roomOf roomQuestion
-  room-6 h = (rw h, rw h)
+  pub room-6 : whole e (e .tx) n ≡ false → refused e 6 ≡ roomOf e n s
+  unfolding roomOf
+  room-6 h = rw h
 
-  pub view-6 : whole e (e .rx) n ≡ false → (viewOf e n s ≡ refused e 6) × (refused e 6 ≡ viewQuestion e s n)
-  unfolding viewOf viewQuestion
-  view-6 h = (rw h, rw h)
+  pub view-6 : whole e (e .rx) n ≡ false → refused e 6 ≡ viewOf e n s
+  unfolding viewOf
+  view-6 h = rw h
 
   module _ (h : whole e (e .tx) n ≡ true) where
-    pub room-25 : starts Reserved (e .tx .count) (e .sent) s ≡ false → (roomOf e n s ≡ refused e 25) × (refused e 25 ≡ roomQuestion e s n)
-    unfolding roomOf roomQuestion
-    room-25 k = (rw (h, k), rw (h, k))
+    pub room-25 : starts Reserved (e .tx .count) (e .sent) s ≡ false → refused e 25 ≡ roomOf e n s
+    unfolding roomOf
+    room-25 k = rw (h, k)
 
-    pub room-ok : starts Reserved (e .tx .count) (e .sent) s ≡ true →
-        (roomOf e n s ≡ placed e (blockAt (e .tx) s + 4) (entry (e .sent) s .count * e .tx .size - 4)) × (accepted e [] ≡ roomQuestion e s n)
-    unfolding roomOf roomQuestion
-    room-ok k = (rw (h, k), rw (h, k))
+    pub room-ok : (x : Entry) → (x ≡ entry (e .sent) s) × (starts Reserved (e .tx .count) (e .sent) s ≡ true) →
+        placed e (blockAt (e .tx) s + 4) (x .count * e .tx .size - 4) ≡ roomOf e n s
+    unfolding roomOf
+    room-ok x k = rw (h, k .1, k .0)
 
   module _ (h : whole e (e .rx) n ≡ true) where
-    pub view-25 : startsData (e .rx .count) (e .rx .size) (e .held) s ≡ false → (viewOf e n s ≡ refused e 25) × (refused e 25 ≡ viewQuestion e s n)
-    unfolding viewOf viewQuestion
-    view-25 k = (rw (h, k), rw (h, k))
+    pub view-25 : startsData (e .rx .count) (e .rx .size) (e .held) s ≡ false → refused e 25 ≡ viewOf e n s
+    unfolding viewOf
+    view-25 k = rw (h, k)
 
-    pub view-ok : startsData (e .rx .count) (e .rx .size) (e .held) s ≡ true →
-        (viewOf e n s ≡ placed e (blockAt (e .rx) s + 4) (entry (e .held) s .length)) × (accepted e [] ≡ viewQuestion e s n)
-    unfolding viewOf viewQuestion
-    view-ok k = (rw (h, k), rw (h, k))
-
--- the empty part, and the part that the code counts from its begin, at the pointer p
-pub no-part : (o : Outcome) (e : End) (n p : ℕ) (l : List ℕ) → o ≡ refused e n → ([] ≡ take (o .size) (drop (o .begin) l)) × (0 + p ≡ p + o .begin)
-no-part o e n p l h = rw h (refl, omega arith)
-
-pub this-part : (o : Outcome) (e : End) (b n m p : ℕ) (l : List ℕ) → o ≡ placed e b n → m ≡ n → (take m (drop b l) ≡ take (o .size) (drop (o .begin) l)) × (b + p ≡ p + o .begin)
-this-part o e b n m p l h k = rw (h, k) (refl, omega arith)
+    pub view-ok : (x : Entry) → (x ≡ entry (e .held) s) × (startsData (e .rx .count) (e .rx .size) (e .held) s ≡ true) →
+        placed e (blockAt (e .rx) s + 4) (x .length) ≡ viewOf e n s
+    unfolding viewOf
+    view-ok x k = rw (h, k .1, k .0)
 
 -- all that a run's part of the n lent bytes needs
 pub record PartIn (g : Region) (s m n : ℕ) : Type 0 where
@@ -153,6 +146,30 @@ view-part e n s h k =
     let r = data-run (e .rx .count) (e .rx .size) (e .held) s k in
     (run-part (e .align) (e .rx) _ (e .held) s n (open-says e (w .is-open) .rx) (r .0) (w .lent), r .1)
 
+-- a place lies inside the n bytes that are lent
+place-inside : (e : End) (n b p x : ℕ) (w k : Bool) → (w ≡ true → k ≡ true → p + x ≤ n) → let o : Outcome = check w 6 e (check k b e (placed e p x)) in o .begin + o .size ≤ n
+place-inside e n b p x true true h = h refl refl
+place-inside e n b p x true false h = omega arith
+place-inside e n b p x false k h = omega arith
+
+pub room-inside : (e : End) (n s : ℕ) → roomOf e n s .begin + roomOf e n s .size ≤ n
+unfolding roomOf
+room-inside e n s =
+    place-inside e n 25 (blockAt (e .tx) s + 4) (entry (e .sent) s .count * e .tx .size - 4) (whole e (e .tx) n) (starts Reserved (e .tx .count) (e .sent) s)
+    (λ w k. let p = room-part e n s w k in omega (arith, p .inside, p .four))
+
+pub view-inside : (e : End) (n s : ℕ) → viewOf e n s .begin + viewOf e n s .size ≤ n
+unfolding viewOf
+view-inside e n s =
+    place-inside e n 25 (blockAt (e .rx) s + 4) (entry (e .held) s .length) (whole e (e .rx) n) (startsData (e .rx .count) (e .rx .size) (e .held) s)
+    (λ w k. let p = view-part e n s w k in omega (arith, p .0 .inside, p .1))
+
+-- the part that the code cuts out at b, of z bytes, is the one at the place o; q is where the slice begins
+pub this-part : (o : Outcome) (b z q : ℕ) (l : List ℕ) → b ≡ o .begin → z ≡ o .size → (take (b + z - b) (drop b l) ≡ take (o .size) (drop (o .begin) l)) × (b + q ≡ q + o .begin)
+this-part o b z q l h k =
+    let e : b + z - b ≡ o .size = omega arith in
+    (rw (e, h) refl, omega arith)
+
 -- ---- send
 
 module _ (e : End) (n s a k : ℕ) where
@@ -177,14 +194,14 @@ module _ (e : End) (n s a k : ℕ) where
 
         pub send-ok : k + 4 ≤ entry (e .sent) s .count * e .tx .size →
             sendOf e n s a k
-            ≡ written (withSent e (taken (freed (e .sent) s (entry (e .sent) s .count)) SentData s (blocksFor (e .tx .size) k) a k)) (0 ∷ a ∷ s ∷ [])
+            ≡ written (withSent e (taken (freed (e .sent) s (entry (e .sent) s .count)) SentData s (blocksFor (e .tx .size) k) a k)) (control 0 a s)
             (writes (straight (blockAt (e .tx) s)) (littleEndian 4 k))
         unfolding sendOf
         send-ok l = rw (h, p, q, le-leb (k + 4) (entry (e .sent) s .count * e .tx .size) l)
 
 -- the tables and bytes that the code made of an accepted send
 pub sent-now : (e : End) (o : Outcome) (s a k c m b : ℕ) (f t : List Entry) (bs bs′ : List ℕ) →
-    o ≡ written (withSent e (taken (freed (e .sent) s c) SentData s m a k)) (0 ∷ a ∷ s ∷ []) (writes (straight (blockAt (e .tx) s)) (littleEndian 4 k)) →
+    o ≡ written (withSent e (taken (freed (e .sent) s c) SentData s m a k)) (control 0 a s) (writes (straight (blockAt (e .tx) s)) (littleEndian 4 k)) →
     b ≡ a → f ≡ freed (e .sent) s c → t ≡ taken f SentData s m b k → bs′ ≡ wrote bs (writes (straight (blockAt (e .tx) s)) (littleEndian 4 k)) →
-    (accepted (withSent e t) (0 ∷ b ∷ s ∷ []) ≡ withoutWrites o) × (bs′ ≡ wrote bs (o .tx))
+    (accepted (withSent e t) (control 0 b s) ≡ withoutWrites o) × (bs′ ≡ wrote bs (o .tx))
 sent-now e o s a k c m b f t bs bs′ h i j l p = (rw (h, l, j, i), rw (h, p))

@@ -13,7 +13,8 @@ use Rattle.region.specs.declared.RegionLayout.{RegionLayout}
 use Rattle.region.specs.declared.LayoutAnswer.{LayoutAnswer}
 use Rattle.region.specs.declared.LayoutAnswer.the-variants.{Accepted, Refused}
 use Rattle.region.proofs.AcceptedLayouts.{accepted-layouts-lie-inside}
-use Rattle.icbmsg.specs.Opening.{Opened, region, fresh, closedWith, opening, txLayout, rxLayout}
+use Rattle.icbmsg.specs.Outcome.{nothing, accepted}
+use Rattle.icbmsg.specs.Opening.{region, fresh, closedWith, opening, txLayout, rxLayout}
 use Rattle.icbmsg.specs.declared.Bounds.{Bounds}
 use Rattle.icbmsg.specs.declared.Opening.{Opening}
 
@@ -48,9 +49,7 @@ module _ (o : Opening) (t : LayoutAnswer) (h : outcomeOf t ≡ txLayout o) where
       overlap l = rw (← h, q, ← k, p, l)
 
       pub opened : (leb (o .tx .end) (o .rx .begin) || leb (o .rx .end) (o .tx .begin)) ≡ true →
-          _≡_ {A = Opened} (record {
-            number = 0;
-            end = fresh (ltb (o .rx .begin) (o .tx .begin)) (o .align) (region (o .tx) (outcomeOf (Accepted y))) (region (o .rx) (outcomeOf (Accepted z)));
-          }) (opening o)
+          accepted (fresh (ltb (o .rx .begin) (o .tx .begin)) (o .align) (region (o .tx) (outcomeOf (Accepted y))) (region (o .rx) (outcomeOf (Accepted z)))) nothing
+          ≡ opening o
       unfolding opening
       opened l = rw (← h, q, ← k, p, l)

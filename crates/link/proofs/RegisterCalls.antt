@@ -20,13 +20,13 @@ use Rattle.endpoints.specs.Endpoints.{noBinding, isUnused, at, registered, hold
 use Rattle.blocks.specs.Names.{paddedName}
 use Rattle.endpoints.specs.declared.Binding.{Binding}
 use Rattle.endpoints.specs.declared.Stage.the-variants.{Waiting, Bound}
-use Rattle.icbmsg.specs.Outcome.{Outcome, refused, accepted, withoutWrites}
+use Rattle.icbmsg.specs.Outcome.{nothing, control, Outcome, refused, accepted, withoutWrites}
 use Rattle.icbmsg.specs.Ends.{whole, blockAt, changed}
 use Rattle.icbmsg.specs.Registering.{announcement, followed, initiates, registerOf}
 use Rattle.icbmsg.specs.End.{End}
 
 -- a good name has 1 to 31 bytes
-pub good-length : (n : List ℕ) → goodName n ≡ true → (1 ≤ length n) × (length n ≤ 31)
+pub good-length : (n : List ℕ) → goodName 31 n ≡ true → (1 ≤ length n) × (length n ≤ 31)
 unfolding goodName
 good-length n h =
     let a = both (leb 1 (length n) && leb (length n) 31) (not (any (λ b. eqb b 0) n)) h in
@@ -45,25 +45,25 @@ module _ (e : End) (n : List ℕ) (i m : ℕ) (q : m ≡ blocksFor (e .tx .size)
     unfolding initiates
     initiate-24 f = rw (← q, le-leb m (e .tx .count) l, f)
 
-    pub initiate-ok : (s : ℕ) → freeRun (e .tx .count) (e .sent) m ≡ foundAt s → initiates e n i ≡ announcement e n i (unusedFrom 8 0 (e .endpoints)) m s
+    pub initiate-ok : (s : ℕ) → freeRun (e .tx .count) (e .sent) m ≡ foundAt s → initiates e n i ≡ announcement e n i (unusedFrom 8 0 (e .endpoints)) s
     unfolding initiates
-    initiate-ok s f = rw (← q, le-leb m (e .tx .count) l, f)
+    initiate-ok s f = rw (← q, le-leb m (e .tx .count) l, f, ← q)
 
 pub announced : (e : End) (n : List ℕ) (i m s a : ℕ) (o : Outcome) (t : List Entry) (kept bs bs′ : List ℕ) →
-    o ≡ announcement e n i (unusedFrom 8 0 (e .endpoints)) m s → a ≡ unusedFrom 8 0 (e .endpoints) → t ≡ taken (e .sent) SentBinding s m a (length n + 1) → kept ≡ paddedName n →
+    m ≡ blocksFor (e .tx .size) (length n + 1) → o ≡ announcement e n i (unusedFrom 8 0 (e .endpoints)) s → a ≡ unusedFrom 8 0 (e .endpoints) → t ≡ taken (e .sent) SentBinding s m a (length n + 1) → kept ≡ paddedName n →
     bs′ ≡ wrote bs (writes (straight (blockAt (e .tx) s)) (littleEndian 4 (length n + 1) ++ n ++ (0 ∷ []))) →
-    (accepted (changed e (e .write) (e .read) t (e .held) (set (e .endpoints) i (record { stage = Waiting; address = a; name = kept })) (e .bindings)) (2 ∷ a ∷ s ∷ []) ≡ withoutWrites o)
+    (accepted (changed e (e .write) (e .read) t (e .held) (set (e .endpoints) i (record { stage = Waiting; address = a; name = kept })) (e .bindings)) (control 2 a s) ≡ withoutWrites o)
     × (bs′ ≡ wrote bs (o .tx))
-announced e n i m s a o t kept bs bs′ h u j k l = (rw (h, j, u, k), rw (h, l))
+announced e n i m s a o t kept bs bs′ q h u j k l = (rw (h, ← q, j, u, k), rw (h, l))
 
 -- ---- the follower
 
 module _ (e : End) (n : List ℕ) (i : ℕ) (q : Search) (kept : List ℕ) (k : kept ≡ paddedName n) where
-  pub follow-waits : q ≡ nowhere → accepted (changed e (e .write) (e .read) (e .sent) (e .held) (set (e .endpoints) i (record { stage = Waiting; address = 0; name = kept })) (e .bindings)) [] ≡ followed e n i q
+  pub follow-waits : q ≡ nowhere → accepted (changed e (e .write) (e .read) (e .sent) (e .held) (set (e .endpoints) i (record { stage = Waiting; address = 0; name = kept })) (e .bindings)) nothing ≡ followed e n i q
   follow-waits h = rw (h, k)
 
   pub follow-binds : (j : ℕ) (b : Binding) (t : List Entry) → q ≡ foundAt j → b ≡ getD (e .bindings) j noBinding → t ≡ freed (e .held) (b .start) (b .count) →
-      accepted (changed e (e .write) (e .read) (e .sent) t (set (e .endpoints) i (record { stage = Bound; address = b .address; name = kept })) (set (e .bindings) j noBinding)) (3 ∷ b .address ∷ b .start ∷ [])
+      accepted (changed e (e .write) (e .read) (e .sent) t (set (e .endpoints) i (record { stage = Bound; address = b .address; name = kept })) (set (e .bindings) j noBinding)) (control 3 (b .address) (b .start))
       ≡ followed e n i q
   follow-binds j b t h p l = rw (h, k, l, p)
 
@@ -94,11 +94,11 @@ module _ (e : End) (l : ℕ) (n : List ℕ) where
   register-6 h = rw h
 
   module _ (h : whole e (e .tx) l ≡ true) where
-    pub register-20 : goodName n ≡ false → registerOf e l n ≡ refused e 20
+    pub register-20 : goodName 31 n ≡ false → registerOf e l n ≡ refused e 20
     unfolding registerOf
     register-20 k = rw (h, k)
 
-    module _ (k : goodName n ≡ true) where
+    module _ (k : goodName 31 n ≡ true) where
       pub register-21 : someEndpoint (registered n) (e .endpoints) ≡ true → registerOf e l n ≡ refused e 21
       unfolding registerOf
       register-21 p = rw (h, k, p)

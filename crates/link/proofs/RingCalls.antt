@@ -12,8 +12,7 @@ use Rattle.refusal.specs.declared.Refusal.{Refusal}
 use Rattle.icmsg.specs.Rules.{Outcome as RingOutcome, refused as ringNo, accepted as ringYes, refusal, answerOf, pullRule as ringPull}
 use Rattle.icmsg.specs.declared.RingAnswer.{RingAnswer}
 use Rattle.icmsg.specs.declared.RingAnswer.the-variants.{Accepted, Refused}
-use Rattle.icbmsg.specs.Outcome.{Outcome, ringRefused, withoutWrites}
-use Rattle.link.specs.Answers.{ringAnswered}
+use Rattle.icbmsg.specs.Outcome.{aLength, Outcome, ringRefused, accepted, withoutWrites}
 use Rattle.icbmsg.specs.Ends.{whole, withWrite, withRead}
 use Rattle.icbmsg.specs.Rings.{ringOf, pushed, pullRule}
 use Rattle.icbmsg.proofs.RulesRead.{pull-answer}
@@ -34,12 +33,12 @@ module _ (o : RingOutcome) (a : RingAnswer) (h : answerOf a ≡ o .answer) where
   says-yes k i l = sym h ∙ ap answerOf l
 
 module _ (e : End) (w : Bool) (o : RingOutcome) (q : w ≡ true) where
-  pub push-refused : (a : RingAnswer) (x : Refusal) → a ≡ Refused x → o ≡ refusal (numberOf x) →
-      (ringAnswered a e ≡ withoutWrites (pick w (pushed e o) (ringRefused e 6))) × (o .region ≡ pick w (pushed e o) (ringRefused e 6) .tx)
-  push-refused a x k l = (rw (q, l, k), rw (q, l))
+  pub push-refused : (n : ℕ) → o ≡ refusal n →
+      (ringRefused e n ≡ withoutWrites (pick w (pushed e o) (ringRefused e 6))) × (o .region ≡ pick w (pushed e o) (ringRefused e 6) .tx)
+  push-refused n l = (rw (q, l), rw (q, l))
 
   pub push-accepted : (k i : ℕ) → o .answer ≡ ringYes k i →
-      (ringAnswered (Accepted k i) (withWrite e i) ≡ withoutWrites (pick w (pushed e o) (ringRefused e 6))) × (o .region ≡ pick w (pushed e o) (ringRefused e 6) .tx)
+      (accepted (withWrite e i) (aLength k) ≡ withoutWrites (pick w (pushed e o) (ringRefused e 6))) × (o .region ≡ pick w (pushed e o) (ringRefused e 6) .tx)
   push-accepted k i l = (rw (q, l), rw (q, l))
 
 pub pull-quiet : (e : End) (o : Outcome) (s b : List ℕ) → o ≡ ringRefused e 6 → (ringRefused e 6 ≡ withoutWrites o) × ((s ≡ wrote s (o .rx)) × (b ≡ wrote b (o .buffer)))
@@ -55,12 +54,12 @@ module _ (e : End) (r : List ℕ) (b : ℕ) where
   pull-6 h = pull-answer e (length r) b r ∙ rw h
 
   module _ (q : whole e (e .rx) (length r) ≡ true) where
-    pub pull-refused : (a : RingAnswer) (x : Refusal) → a ≡ Refused x → ringOutcome ≡ refusal (numberOf x) →
-        (ringAnswered a e ≡ withoutWrites (answer (pullRule e (length r) b) r))
+    pub pull-refused : (n : ℕ) → ringOutcome ≡ refusal n →
+        (ringRefused e n ≡ withoutWrites (answer (pullRule e (length r) b) r))
         × (ringOutcome .region ≡ answer (pullRule e (length r) b) r .rx) × (ringOutcome .buffer ≡ answer (pullRule e (length r) b) r .buffer)
-    pull-refused a x k l = rw (pull-answer e (length r) b r, q) (rw (l, k), rw l, rw l)
+    pull-refused n l = rw (pull-answer e (length r) b r, q) (rw l, rw l, rw l)
 
     pub pull-accepted : (k i : ℕ) → ringOutcome .answer ≡ ringYes k i →
-        (ringAnswered (Accepted k i) (withRead e i) ≡ withoutWrites (answer (pullRule e (length r) b) r))
+        (accepted (withRead e i) (aLength k) ≡ withoutWrites (answer (pullRule e (length r) b) r))
         × (ringOutcome .region ≡ answer (pullRule e (length r) b) r .rx) × (ringOutcome .buffer ≡ answer (pullRule e (length r) b) r .buffer)
     pull-accepted k i l = rw (pull-answer e (length r) b r, q) (rw l, rw l, rw l)

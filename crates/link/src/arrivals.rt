@@ -26,6 +26,9 @@ use refusal::Refusal;
 
 const LAST_ADDRESS: u8 = 0xFD;
 
+// Where the zero behind a name stands at the latest.
+const NAME_AND_ZERO: usize = End::LONGEST_NAME + 1;
+
 impl End {
     // Kind 0: a data message has arrived.
     fn data_sent(mut self, rx: &[u8], address: u8, block: u8) -> Called
@@ -194,7 +197,11 @@ impl End {
             },
             Measured::Fits { length, count } => {
                 let p = self.rx.blocks as usize + block as usize * self.rx.size as usize + 4;
-                match blocks::framing::name_length(rx, p, wire::least(length as usize, 32)) {
+                match blocks::framing::name_length(
+                    rx,
+                    p,
+                    wire::least(length as usize, NAME_AND_ZERO),
+                ) {
                     Found::Nowhere => Called {
                         answer: Answer::Refused(Refusal::BadName),
                         end: self,
@@ -247,7 +254,7 @@ impl End {
         }
     }
 
-    // A control message has arrived. Those that read receive bytes are lent the whole receive region.
+    // A control message has arrived. Every arrival is lent the whole receive region; only kinds 0 and 2 read in it.
     pub fn arrival(self, rx: &[u8], message: &[u8]) -> Called
         ensures { λ r. ⌜ outcomeOf r ≡ answer (arrivalRule (endOf self) (length (now (rx .entry))) (now (message .entry))) (now (rx .entry)) ⌝ }
     {

@@ -10,7 +10,6 @@ use blocks::Entry;
 use endpoints::Binding;
 use endpoints::Endpoint;
 use icbmsg::Region;
-use icmsg::RingAnswer;
 use refusal::Refusal;
 
 // One end: its role, the regions, the own indexes of their rings, an entry for each block in each direction, the endpoints and the
@@ -22,24 +21,29 @@ pub struct End {
     pub rx: Region,
     pub write: u32,
     pub read: u32,
-    pub sent: [Entry; 256],
-    pub held: [Entry; 256],
-    pub endpoints: [Endpoint; 8],
-    pub bindings: [Binding; 8],
+    pub sent: [Entry; End::BLOCKS],
+    pub held: [Entry; End::BLOCKS],
+    pub endpoints: [Endpoint; End::ENDPOINTS],
+    pub bindings: [Binding; End::BINDINGS],
 }
 
 impl End {
-    // The limits of an end.
-    pub const BLOCKS: usize = 256;
+    // The limits of an end: the largest alignment, the most bytes and blocks of a region, endpoints, stored bindings, and the bytes of a
+    // name.
+    pub const MAX_ALIGNMENT: u32 = region::MAX_ALIGNMENT;
 
-    pub const ENDPOINTS: usize = 8;
+    pub const MAX_BYTES: u32 = region::MAX_BYTES;
 
-    pub const BINDINGS: usize = 8;
+    pub const BLOCKS: usize = blocks::BLOCKS;
+
+    pub const ENDPOINTS: usize = endpoints::PLACES;
+
+    pub const BINDINGS: usize = endpoints::PLACES;
 
     pub const LONGEST_NAME: usize = 31;
 }
 
-// What a call answers. Ring calls answer as the ring does.
+// What a call answers.
 pub enum Answer {
     // Accepted, with nothing more to say.
     Accepted,
@@ -52,6 +56,19 @@ pub enum Answer {
     Refused(Refusal),
 }
 
+// What a ring call answers: the length of the packet's content. The own index is the end's to keep.
+pub enum PacketAnswer {
+    Length(u32),
+    Refused(Refusal),
+}
+
+// Where a room or view lies in the slice that is lent: its first byte, and how many. None on a refusal.
+pub struct Place {
+    pub answer: Answer,
+    pub begin: u32,
+    pub size: u32,
+}
+
 // A call's answer, and the end that it leaves.
 pub struct Called {
     pub answer: Answer,
@@ -60,6 +77,6 @@ pub struct Called {
 
 // A ring call's answer, and the end that it leaves.
 pub struct RingCalled {
-    pub answer: RingAnswer,
+    pub answer: PacketAnswer,
     pub end: End,
 }

@@ -4,16 +4,29 @@ ghost use Prim.Native.Nat.{_+_};
 ghost use lib.ListN.{length, take, drop as dropped};
 ghost use Rattle.wire.specs.Bytes.{wrote};
 ghost use Rattle.icbmsg.specs.Outcome.{withoutWrites};
-ghost use Rattle.link.specs.Answers.{answered, outcomeOf, endOf};
+ghost use Rattle.link.specs.Answers.{answered, outcomeOf, placeOf, endOf};
+ghost use Rattle.link.specs.declared.Answer.{Answer};
 ghost use Rattle.icbmsg.specs.Messages.{reserveOf, roomOf, sendOf, dropOf, viewOf, doneOf, roomQuestion, viewQuestion};
 use crate::Answer;
 use crate::Called;
 use crate::End;
+use crate::Place;
 use blocks::Found;
 use blocks::RunAt;
 use blocks::Use;
 use endpoints::Addressee;
 use refusal::Refusal;
+
+// A refusal has no place.
+fn nowhere(x: Refusal) -> Place
+    ensures { λ r. ⌜ r ≡ record { answer = Answer.Refused x; begin = 0; size = 0 } ⌝ }
+{
+    Place {
+        answer: Answer::Refused(x),
+        begin: 0,
+        size: 0,
+    }
+}
 
 impl End {
     // Reserves the blocks of a message of k bytes.
@@ -53,41 +66,42 @@ impl End {
         }
     }
 
-    // The writable part of a reservation: after its header, to the end of its last block. Empty on a refusal.
+    // Where the room of a reservation lies, with `lent` bytes lent: after its header, to the end of its last block.
+    pub fn room_place(self, start: u32, lent: usize) -> Place
+        ensures { λ r. ⌜ placeOf r (endOf self) ≡ roomOf (endOf self) lent start ⌝ }
+    {
+        let opened = checks::is_open(self.align, self.tx, self.rx, self.write, self.read);
+        if !(opened & (lent == self.tx.bytes as usize)) {
+            return nowhere(Refusal::WrongRegion);
+        }
+        let sent = self.sent;
+        match blocks::run_at(sent, Use::Reserved, self.tx.count, start) {
+            RunAt::Nothing => nowhere(Refusal::NoMessage),
+            RunAt::Live(x) => Place {
+                answer: Answer::Accepted,
+                begin: self.tx.blocks + start * self.tx.size + 4,
+                size: x.count as u32 * self.tx.size - 4,
+            },
+        }
+    }
+
+    // The writable part of a reservation, where `room_place` says. Empty on a refusal.
     pub fn room(self, tx: &mut [u8], start: u32) -> &mut [u8]
         ensures bytes { λ r. ⌜ now r ≡ take (roomOf (endOf self) (length (now (tx .entry))) start .size) (dropped (roomOf (endOf self) (length (now (tx .entry))) start .begin) (now (tx .entry))) ⌝ }
         ensures place { λ r. ⌜ (r .ptr .0 ≡ tx .entry .ptr .0) × (r .ptr .1 ≡ tx .entry .ptr .1 + roomOf (endOf self) (length (now (tx .entry))) start .begin) ⌝ }
     {
-        let opened = checks::is_open(self.align, self.tx, self.rx, self.write, self.read);
-        if !(opened & (tx.len() == self.tx.bytes as usize)) {
-            return &mut tx[0..0];
-        }
-        let sent = self.sent;
-        match blocks::run_at(sent, Use::Reserved, self.tx.count, start) {
-            RunAt::Nothing => &mut tx[0..0],
-            RunAt::Live(x) => {
-                let size = self.tx.size as usize;
-                let block = self.tx.blocks as usize + start as usize * size;
-                let begin = block + 4;
-                let end = block + x.count as usize * size;
-                &mut tx[begin..end]
-            }
-        }
+        let place = self.room_place(start, tx.len());
+        let begin = place.begin as usize;
+        let end = begin + place.size as usize;
+        &mut tx[begin..end]
     }
 
     // Whether `room` would give a room, with `lent` bytes lent.
     pub fn ask_room(self, start: u32, lent: usize) -> Answer
         ensures { λ r. ⌜ answered r (endOf self) ≡ roomQuestion (endOf self) start lent ⌝ }
     {
-        let opened = checks::is_open(self.align, self.tx, self.rx, self.write, self.read);
-        if !(opened & (lent == self.tx.bytes as usize)) {
-            return Answer::Refused(Refusal::WrongRegion);
-        }
-        let sent = self.sent;
-        match blocks::run_at(sent, Use::Reserved, self.tx.count, start) {
-            RunAt::Nothing => Answer::Refused(Refusal::NoMessage),
-            RunAt::Live(_) => Answer::Accepted,
-        }
+        let place = self.room_place(start, lent);
+        place.answer
     }
 
     // Sends the first k bytes of a reservation's room: writes the header, and frees the blocks beyond the need.
@@ -166,39 +180,42 @@ impl End {
         }
     }
 
-    // The bytes of a received data message, of the length recorded at its arrival. Empty on a refusal.
+    // Where the bytes of a received data message lie, with `lent` bytes lent: after its header, of the length recorded at its arrival.
+    pub fn view_place(self, start: u32, lent: usize) -> Place
+        ensures { λ r. ⌜ placeOf r (endOf self) ≡ viewOf (endOf self) lent start ⌝ }
+    {
+        let opened = checks::is_open(self.align, self.tx, self.rx, self.write, self.read);
+        if !(opened & (lent == self.rx.bytes as usize)) {
+            return nowhere(Refusal::WrongRegion);
+        }
+        let held = self.held;
+        match blocks::data_at(held, self.rx.count, self.rx.size, start) {
+            RunAt::Nothing => nowhere(Refusal::NoMessage),
+            RunAt::Live(x) => Place {
+                answer: Answer::Accepted,
+                begin: self.rx.blocks + start * self.rx.size + 4,
+                size: x.length,
+            },
+        }
+    }
+
+    // The bytes of a received data message, where `view_place` says. Empty on a refusal.
     pub fn view(self, rx: &[u8], start: u32) -> &[u8]
         ensures bytes { λ r. ⌜ now r ≡ take (viewOf (endOf self) (length (now (rx .entry))) start .size) (dropped (viewOf (endOf self) (length (now (rx .entry))) start .begin) (now (rx .entry))) ⌝ }
         ensures place { λ r. ⌜ (r .ptr .0 ≡ rx .entry .ptr .0) × (r .ptr .1 ≡ rx .entry .ptr .1 + viewOf (endOf self) (length (now (rx .entry))) start .begin) ⌝ }
     {
-        let opened = checks::is_open(self.align, self.tx, self.rx, self.write, self.read);
-        if !(opened & (rx.len() == self.rx.bytes as usize)) {
-            return &rx[0..0];
-        }
-        let held = self.held;
-        match blocks::data_at(held, self.rx.count, self.rx.size, start) {
-            RunAt::Nothing => &rx[0..0],
-            RunAt::Live(x) => {
-                let begin = self.rx.blocks as usize + start as usize * self.rx.size as usize + 4;
-                let end = begin + x.length as usize;
-                &rx[begin..end]
-            }
-        }
+        let place = self.view_place(start, rx.len());
+        let begin = place.begin as usize;
+        let end = begin + place.size as usize;
+        &rx[begin..end]
     }
 
     // Whether `view` would give a message's bytes, with `lent` bytes lent.
     pub fn ask_view(self, start: u32, lent: usize) -> Answer
         ensures { λ r. ⌜ answered r (endOf self) ≡ viewQuestion (endOf self) start lent ⌝ }
     {
-        let opened = checks::is_open(self.align, self.tx, self.rx, self.write, self.read);
-        if !(opened & (lent == self.rx.bytes as usize)) {
-            return Answer::Refused(Refusal::WrongRegion);
-        }
-        let held = self.held;
-        match blocks::data_at(held, self.rx.count, self.rx.size, start) {
-            RunAt::Nothing => Answer::Refused(Refusal::NoMessage),
-            RunAt::Live(_) => Answer::Accepted,
-        }
+        let place = self.view_place(start, lent);
+        place.answer
     }
 
     // Ends the reading of a received data message: its blocks are free again.

@@ -4,7 +4,8 @@ ghost use Prim.Native.Nat.{_≤_, _<_};
 ghost use Rattle.refusal.specs.Numbers.{numberOf};
 ghost use Rattle.region.specs.Layout.{outcomeOf as layoutOf};
 ghost use Rattle.region.specs.declared.LayoutAnswer.{LayoutAnswer};
-ghost use Rattle.link.specs.Answers.{endOf, openedOf};
+ghost use Rattle.link.specs.Answers.{endOf, outcomeOf};
+ghost use Rattle.icbmsg.specs.Promises.{Promises};
 ghost use Rattle.icbmsg.specs.Opening.{opening, region as regionRule, fresh as freshRule, closedWith};
 use crate::Answer;
 use crate::Called;
@@ -61,7 +62,7 @@ impl End {
 
     // A refused opening gives a closed end, which answers 6 to every call.
     fn closed(x: Refusal) -> Called
-        ensures { λ r. ⌜ openedOf r ≡ closedWith (numberOf x) ⌝ }
+        ensures { λ r. ⌜ outcomeOf r ≡ closedWith (numberOf x) ⌝ }
     {
         Called {
             answer: Answer::Refused(x),
@@ -69,9 +70,11 @@ impl End {
         }
     }
 
-    // Opens an end: checks the transmit region, then the receive region, then that they share no byte.
+    // Opens an end: checks the transmit region, then the receive region, then that they share no byte. What the rules promise for every
+    // list of calls from here on is ensured with it.
     pub fn open(o: Opening) -> Called
-        ensures { λ r. ⌜ openedOf r ≡ opening o ⌝ }
+        ensures answer { λ r. ⌜ outcomeOf r ≡ opening o ⌝ }
+        ensures promises { λ _. ⌜ Promises ⌝ }
     {
         let tx = o.tx;
         let rx = o.rx;

@@ -23,7 +23,7 @@ use refusal::Refusal;
 impl End {
     // Sends a binding for the endpoint at place i, which then waits.
     fn initiate(mut self, tx: &mut [u8], name: &[u8], i: usize) -> Called
-        requires { ⌜ (isOpen (endOf self) ≡ true) × (length (now tx) ≡ self .tx .bytes) × (goodName (now name) ≡ true) × (i < 8) ⌝ }
+        requires { ⌜ (isOpen (endOf self) ≡ true) × (length (now tx) ≡ self .tx .bytes) × (goodName 31 (now name) ≡ true) × (i < 8) ⌝ }
         ensures answer { λ r. ⌜ outcomeOf r ≡ withoutWrites (initiates (endOf self) (now (name .entry)) i) ⌝ }
         ensures tx { λ _. ⌜ now (tx .exit) ≡ wrote (now (tx .entry)) (initiates (endOf self) (now (name .entry)) i .tx) ⌝ }
     {
@@ -69,7 +69,7 @@ impl End {
 
     // Binds the endpoint at place i to a stored binding of its name, if there is one; else it waits.
     fn follow(mut self, name: &[u8], i: usize) -> Called
-        requires { ⌜ (isOpen (endOf self) ≡ true) × (goodName (now name) ≡ true) × (i < 8) ⌝ }
+        requires { ⌜ (isOpen (endOf self) ≡ true) × (goodName 31 (now name) ≡ true) × (i < 8) ⌝ }
         ensures { λ r. ⌜ outcomeOf r ≡ followed (endOf self) (now (name .entry)) i (bindingAt (holds (self .rx .count) (now (name .entry))) (self .bindings)) ⌝ }
     {
         let kept = blocks::framing::padded(name, 0, name.len());
@@ -122,7 +122,7 @@ impl End {
                 end: self,
             };
         }
-        if !endpoints::is_good_name(name) {
+        if !endpoints::is_good_name(name, End::LONGEST_NAME) {
             return Called {
                 answer: Answer::Refused(Refusal::BadName),
                 end: self,

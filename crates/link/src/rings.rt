@@ -7,6 +7,7 @@ ghost use Rattle.icbmsg.specs.Outcome.{withoutWrites};
 ghost use Rattle.link.specs.Answers.{ringOutcomeOf, endOf};
 ghost use Rattle.icbmsg.specs.Rings.{ringOf, startOf, pushOf, pullRule};
 use crate::End;
+use crate::PacketAnswer;
 use crate::RingCalled;
 use icbmsg::Region;
 use icmsg::Ring;
@@ -33,18 +34,23 @@ impl End {
         let opened = checks::is_open(self.align, self.tx, self.rx, self.write, self.read);
         if !(opened & (tx.len() == self.tx.bytes as usize)) {
             return RingCalled {
-                answer: RingAnswer::Refused(Refusal::WrongRegion),
+                answer: PacketAnswer::Refused(Refusal::WrongRegion),
                 end: self,
             };
         }
-        let answer = icmsg::start(tx, ring_of(self.align, self.tx));
-        match answer {
-            RingAnswer::Refused(_) => {}
-            RingAnswer::Accepted { length: _, index } => {
+        match icmsg::start(tx, ring_of(self.align, self.tx)) {
+            RingAnswer::Refused(x) => RingCalled {
+                answer: PacketAnswer::Refused(x),
+                end: self,
+            },
+            RingAnswer::Accepted { length, index } => {
                 self.write = index;
+                RingCalled {
+                    answer: PacketAnswer::Length(length),
+                    end: self,
+                }
             }
         }
-        RingCalled { answer, end: self }
     }
 
     // Puts a packet with the content on the transmit ring.
@@ -55,18 +61,23 @@ impl End {
         let opened = checks::is_open(self.align, self.tx, self.rx, self.write, self.read);
         if !(opened & (tx.len() == self.tx.bytes as usize)) {
             return RingCalled {
-                answer: RingAnswer::Refused(Refusal::WrongRegion),
+                answer: PacketAnswer::Refused(Refusal::WrongRegion),
                 end: self,
             };
         }
-        let answer = icmsg::push(tx, ring_of(self.align, self.tx), self.write, content);
-        match answer {
-            RingAnswer::Refused(_) => {}
-            RingAnswer::Accepted { length: _, index } => {
+        match icmsg::push(tx, ring_of(self.align, self.tx), self.write, content) {
+            RingAnswer::Refused(x) => RingCalled {
+                answer: PacketAnswer::Refused(x),
+                end: self,
+            },
+            RingAnswer::Accepted { length, index } => {
                 self.write = index;
+                RingCalled {
+                    answer: PacketAnswer::Length(length),
+                    end: self,
+                }
             }
         }
-        RingCalled { answer, end: self }
     }
 
     // Takes the next packet off the receive ring, and copies what fits of its content to the buffer.
@@ -78,17 +89,22 @@ impl End {
         let opened = checks::is_open(self.align, self.tx, self.rx, self.write, self.read);
         if !(opened & (rx.len() == self.rx.bytes as usize)) {
             return RingCalled {
-                answer: RingAnswer::Refused(Refusal::WrongRegion),
+                answer: PacketAnswer::Refused(Refusal::WrongRegion),
                 end: self,
             };
         }
-        let answer = icmsg::pull(rx, ring_of(self.align, self.rx), self.read, buffer);
-        match answer {
-            RingAnswer::Refused(_) => {}
-            RingAnswer::Accepted { length: _, index } => {
+        match icmsg::pull(rx, ring_of(self.align, self.rx), self.read, buffer) {
+            RingAnswer::Refused(x) => RingCalled {
+                answer: PacketAnswer::Refused(x),
+                end: self,
+            },
+            RingAnswer::Accepted { length, index } => {
                 self.read = index;
+                RingCalled {
+                    answer: PacketAnswer::Length(length),
+                    end: self,
+                }
             }
         }
-        RingCalled { answer, end: self }
     }
 }

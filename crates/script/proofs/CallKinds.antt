@@ -15,7 +15,7 @@ use Rattle.icbmsg.specs.Registering.{registerOf}
 use Rattle.icbmsg.specs.Arrivals.{arrivalRule}
 use Rattle.icbmsg.specs.Calls.{rule, lent, step, pull}
 use Rattle.icbmsg.specs.End.{End}
-use Rattle.link.specs.Answers.{answerNumber, answerValues, answered, endOf}
+use Rattle.link.specs.Answers.{answerNumber, answerGiven, answered, endOf}
 use Rattle.link.specs.declared.Answer.{Answer}
 use Rattle.link.specs.declared.End.{End as CodeEnd}
 use Rattle.script.specs.Rows.{reply, replyOf}
@@ -32,7 +32,7 @@ pub but-for-writes : {r : Ran} {o o′ : Outcome} → RanAs r o → o ≡ withou
 but-for-writes h e = record { reply = h .reply ∙ ap replyOf e; end = h .end ∙ ap (λ (o : Outcome). o .next) e }
 
 -- a question changes no end
-pub asked-as : (a : Answer) (x : CodeEnd) {l : List ℕ} → l ≡ reply (answerNumber a) (answerValues a) 0 0 → RanAs (record { reply = l; end = x }) (answered a (endOf x))
+pub asked-as : (a : Answer) (x : CodeEnd) {l : List ℕ} → l ≡ reply (answerNumber a) (answerGiven a) 0 0 → RanAs (record { reply = l; end = x }) (answered a (endOf x))
 asked-as a x h = record { reply = h; end = refl }
 
 module _ (e : End) (b tx rx buffer : List ℕ) (k : ℕ) where

@@ -11,7 +11,7 @@ use lib.Seq.{set-append-left, set-out, take-all}
 use borrow.Author.Tests.{leb-true, leb-false, ne-eqb}
 use Rattle.wire.specs.Choice.{pick}
 use Rattle.wire.specs.Bytes.{straight, bytes, writes, wrote, Inside}
-use Rattle.wire.proofs.Positions.{length-wrote, wrote-append, writes-append, bytes-part, bytes-at-same, bytes-all}
+use Rattle.wire.proofs.Positions.{within-wider, length-wrote, wrote-append, writes-append, bytes-part, bytes-at-same, bytes-all}
 use Rattle.wire.specs.Reads.{answer}
 use Rattle.blocks.specs.Tables.{starts, startsData}
 use Rattle.blocks.specs.declared.Use.the-variants.{Reserved}
@@ -31,18 +31,14 @@ use Rattle.script.proofs.Memory.{first-least}
 
 pub none-inside : (ws : List (ℕ × ℕ)) → Inside 0 ws → ws ≡ []
 none-inside [] h = refl
-none-inside (w ∷ ws) h = absurd (omega (arith, h .0))
-
-pub inside-more : (n m : ℕ) (ws : List (ℕ × ℕ)) → n ≤ m → Inside n ws → Inside m ws
-inside-more n m [] l h = tt
-inside-more n m (w ∷ ws) l h = (omega (arith, h .0), inside-more n m ws l (h .1))
+none-inside (w ∷ ws) h = absurd (omega (arith, h .1))
 
 wrote-left : (xs ys : List ℕ) (ws : List (ℕ × ℕ)) → Inside (length xs) ws → wrote xs ws ++ ys ≡ wrote (xs ++ ys) ws
 unfolding wrote
 wrote-left xs ys [] h = refl
 wrote-left xs ys (w ∷ ws) h =
-    wrote-left (set xs (w .0) (w .1)) ys ws (rw (length-set xs (w .0) (w .1)) (h .1))
-    ∙ ap (λ (l : List ℕ). wrote l ws) (sym (set-append-left xs ys (w .0) (w .1) (h .0)))
+    wrote-left (set xs (w .0) (w .1)) ys ws (rw (length-set xs (w .0) (w .1)) (h .2))
+    ∙ ap (λ (l : List ℕ). wrote l ws) (sym (set-append-left xs ys (w .0) (w .1) (h .1)))
 
 pub wrote-first : (l : List ℕ) (n : ℕ) (ws : List (ℕ × ℕ)) → Inside (length (take n l)) ws → wrote (take n l) ws ++ drop n l ≡ wrote l ws
 wrote-first l n ws h = wrote-left (take n l) (drop n l) ws h ∙ ap (λ (x : List ℕ). wrote x ws) (take-append-drop n l)
@@ -107,10 +103,10 @@ module _ (e : End) where
   pub not-received : (c : Call) → lent c .rx ≡ [] → lent c .buffer ≡ [] → (step e c .rx ≡ []) × (step e c .buffer ≡ [])
   not-received c h k =
       let w = writes-stay-inside e c in
-      (none-inside _ (rw h at (w .1)), none-inside _ (rw k at (w .2)))
+      (none-inside _ (rw h at (w .rx)), none-inside _ (rw k at (w .buffer)))
 
   pub not-sent : (c : Call) → lent c .tx ≡ [] → step e c .tx ≡ []
-  not-sent c h = none-inside _ (rw h at (writes-stay-inside e c .0))
+  not-sent c h = none-inside _ (rw h at (writes-stay-inside e c .tx))
 
   pub start-writes : (tx : List ℕ) → (startOf e (length tx) .rx ≡ []) × (startOf e (length tx) .buffer ≡ [])
   unfolding step rule lent
@@ -139,7 +135,7 @@ module _ (e : End) where
   unfolding step rule lent
   pulled-bytes rx buffer n m h rx′ part k l =
       rw (← (first-least buffer n m h))
-      (k, ap (λ (x : List ℕ). x ++ drop m buffer) l ∙ wrote-first buffer m _ (writes-stay-inside e (pull rx (take m buffer)) .2))
+      (k, ap (λ (x : List ℕ). x ++ drop m buffer) l ∙ wrote-first buffer m _ (writes-stay-inside e (pull rx (take m buffer)) .buffer))
 
 -- ---- the lent bytes after a call of kind k, whose outcome o is that of its rule, x
 
@@ -167,27 +163,27 @@ pick-call P true c d h k = h
 pick-call P false c d h k = k
 
 module _ (e : End) (tx rx : List ℕ) where
-  abbrev Within : Call → Type 0
-  Within c = Inside (length tx) (step e c .tx) × Inside (length rx) (step e c .rx)
+  abbrev Lies : Call → Type 0
+  Lies c = Inside (length tx) (step e c .tx) × Inside (length rx) (step e c .rx)
 
-  leaf : (c : Call) → length (lent c .tx) ≤ length tx → length (lent c .rx) ≤ length rx → Within c
-  leaf c h k = let w = writes-stay-inside e c in (inside-more (length (lent c .tx)) (length tx) (step e c .tx) h (w .0), inside-more (length (lent c .rx)) (length rx) (step e c .rx) k (w .1))
+  leaf : (c : Call) → length (lent c .tx) ≤ length tx → length (lent c .rx) ≤ length rx → Lies c
+  leaf c h k = let w = writes-stay-inside e c in (within-wider 0 (length (lent c .tx)) 0 (length tx) (step e c .tx) (omega arith) h (w .tx), within-wider 0 (length (lent c .rx)) 0 (length rx) (step e c .rx) (omega arith) k (w .rx))
 
-  within : (k : ℕ) (b buffer : List ℕ) → Within (callOf k b tx rx buffer)
+  within : (k : ℕ) (b buffer : List ℕ) → Lies (callOf k b tx rx buffer)
   unfolding callOf lent
   within k b buffer =
-      pick-call Within (eqb k 0) _ _ (leaf (arrival rx b) (omega arith) (omega arith))
-      (pick-call Within (eqb k 1) _ _ (leaf (register tx b) (omega arith) (omega arith))
-      (pick-call Within (eqb k 2) _ _ (leaf (reserve (numberAt 4 b 0)) (omega arith) (omega arith))
-      (pick-call Within (eqb k 3) _ _ (leaf (send tx (numberAt 4 b 0) (numberAt 4 b 4) (numberAt 4 b 8)) (omega arith) (omega arith))
-      (pick-call Within (eqb k 4) _ _ (leaf (dropCall (numberAt 4 b 0)) (omega arith) (omega arith))
-      (pick-call Within (eqb k 5) _ _ (leaf (done (numberAt 4 b 0)) (omega arith) (omega arith))
-      (pick-call Within (eqb k 6) _ _ (leaf (push tx b) (omega arith) (omega arith))
-      (pick-call Within (eqb k 16) _ _ (leaf (start tx) (omega arith) (omega arith))
-      (pick-call Within (eqb k 17) _ _ (leaf (pull rx (take (numberAt 2 b 0) buffer)) (omega arith) (omega arith))
-      (pick-call Within (eqb k 18) _ _ (leaf (room tx (numberAt 4 b 0)) (omega arith) (omega arith))
-      (pick-call Within (eqb k 19) _ _ (leaf (view rx (numberAt 4 b 0)) (omega arith) (omega arith))
-      (pick-call Within (eqb k 20) _ _ (leaf (askRoom (numberAt 4 b 0) (numberAt 4 b 4)) (omega arith) (omega arith))
+      pick-call Lies (eqb k 0) _ _ (leaf (arrival rx b) (omega arith) (omega arith))
+      (pick-call Lies (eqb k 1) _ _ (leaf (register tx b) (omega arith) (omega arith))
+      (pick-call Lies (eqb k 2) _ _ (leaf (reserve (numberAt 4 b 0)) (omega arith) (omega arith))
+      (pick-call Lies (eqb k 3) _ _ (leaf (send tx (numberAt 4 b 0) (numberAt 4 b 4) (numberAt 4 b 8)) (omega arith) (omega arith))
+      (pick-call Lies (eqb k 4) _ _ (leaf (dropCall (numberAt 4 b 0)) (omega arith) (omega arith))
+      (pick-call Lies (eqb k 5) _ _ (leaf (done (numberAt 4 b 0)) (omega arith) (omega arith))
+      (pick-call Lies (eqb k 6) _ _ (leaf (push tx b) (omega arith) (omega arith))
+      (pick-call Lies (eqb k 16) _ _ (leaf (start tx) (omega arith) (omega arith))
+      (pick-call Lies (eqb k 17) _ _ (leaf (pull rx (take (numberAt 2 b 0) buffer)) (omega arith) (omega arith))
+      (pick-call Lies (eqb k 18) _ _ (leaf (room tx (numberAt 4 b 0)) (omega arith) (omega arith))
+      (pick-call Lies (eqb k 19) _ _ (leaf (view rx (numberAt 4 b 0)) (omega arith) (omega arith))
+      (pick-call Lies (eqb k 20) _ _ (leaf (askRoom (numberAt 4 b 0) (numberAt 4 b 4)) (omega arith) (omega arith))
       (leaf (askView (numberAt 4 b 0) (numberAt 4 b 4)) (omega arith) (omega arith)))))))))))))
 
 -- ---- the memory after a record

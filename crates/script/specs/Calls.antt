@@ -2,12 +2,12 @@
 use Prim.Native.Nat.{ℕ}
 use mathlib.Core.Bool.{true, _||_}
 use mathlib.Core.Path.{_≡_}
-use mathlib.Core.List.{List, []}
+use mathlib.Core.List.{List}
 use lib.Dec.{eqb}
 use lib.ListN.{length, take, drop as dropped}
 use Rattle.wire.specs.Choice.{pick}
 use Rattle.wire.specs.Bytes.{straight, writes, wrote}
-use Rattle.icbmsg.specs.Outcome.{Outcome}
+use Rattle.icbmsg.specs.Outcome.{nothing as none, Outcome}
 use Rattle.icbmsg.specs.Calls.{Call, start, push, pull, reserve, room, send, drop, arrival, view, done, register, askRoom, askView, step}
 use Rattle.icbmsg.specs.End.{End}
 use Rattle.link.specs.Answers.{endOf}
@@ -44,7 +44,7 @@ pub record Step : Type 0 where
   pub lentRx : ℕ
 
 abbrev pub nothing : End → ℕ → ℕ → Step
-nothing e n m = record { reply = reply 0 [] 0 0; end = e; lentTx = n; lentRx = m }
+nothing e n m = record { reply = reply 0 none 0 0; end = e; lentTx = n; lentRx = m }
 
 abbrev pub called : Outcome → ℕ → ℕ → Step
 called o n m = record { reply = replyOf o; end = o .next; lentTx = n; lentRx = m }

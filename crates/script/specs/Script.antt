@@ -1,23 +1,23 @@
 -- What an opening and a record leave, their rows, and a run of a script.
 use Prim.Native.Nat.{ℕ, _+_, _≤_, _<_}
 use mathlib.Core.Path.{_≡_}
-use mathlib.Core.List.{List, []}
+use mathlib.Core.List.{List}
 use lib.ListN.{length, take, drop}
 use Rattle.wire.specs.Bytes.{straight, writes, wrote, words}
 use Rattle.icbmsg.specs.Opening.{opening}
 use Rattle.icbmsg.specs.declared.Opening.{Opening}
 use Rattle.icbmsg.specs.End.{End}
 use Rattle.link.specs.Answers.{endOf}
-use Rattle.script.specs.Rows.{reply, rowOf}
+use Rattle.script.specs.Rows.{rowOf}
 use Rattle.script.specs.Records.{begun, bytesOf, firstRecord}
-use Rattle.script.specs.Calls.{callOutcome, Step, recordStep, Leaves}
+use Rattle.script.specs.Calls.{callOutcome, Step, called, recordStep, Leaves}
 use Rattle.script.specs.declared.records.Begun.the-variants.{Short, Opening as Begins}
 use Rattle.script.specs.declared.records.Next.the-variants.{Stop, Whole}
 use Rattle.script.specs.declared.Left.{Left}
 
 -- the opening: calls are lent "as many as the region has (end − begin) at first"
 abbrev pub openingStep : Opening → Step
-openingStep o = record { reply = reply (opening o .number) [] 0 0; end = opening o .end; lentTx = bytesOf (o .tx); lentRx = bytesOf (o .rx) }
+openingStep o = called (opening o) (bytesOf (o .tx)) (bytesOf (o .rx))
 
 -- `out` with the row of a step at p, and the memory as it is then
 abbrev pub withRow : List ℕ → ℕ → Step → List ℕ → List ℕ → List ℕ → List ℕ

@@ -1,16 +1,12 @@
 // What a record does: a call on the end, or a write to the memory around it.
 ghost use mathlib.Core.Path.{_≡_};
 ghost use mathlib.Core.Bool.{true};
-ghost use mathlib.Core.List.{[]};
-ghost use Prim.Native.Nat.{_+_, _≤_};
-ghost use lib.Dec.{eqb};
+ghost use Prim.Native.Nat.{_≤_};
 ghost use lib.ListN.{length, take};
 ghost use Rattle.wire.specs.Bytes.{wrote};
-ghost use Rattle.wire.specs.Choice.{pick};
-ghost use Rattle.icbmsg.specs.Ends.{blockAt};
 ghost use Rattle.icbmsg.specs.Messages.{roomOf, viewOf};
 ghost use Rattle.icbmsg.specs.Calls.{step as stepRule, pull as pullCall};
-ghost use Rattle.link.specs.Answers.{answerNumber, endOf, outcomeOf, ringOutcomeOf};
+ghost use Rattle.link.specs.Answers.{endOf, outcomeOf, ringOutcomeOf};
 ghost use Rattle.script.specs.Rows.{reply, replyOf};
 ghost use Rattle.script.specs.Records.{has};
 ghost use Rattle.script.specs.Calls.{IsCall, RanAs, Wrote, callOutcome, overwritten, Leaves, recordStep, stepOf};
@@ -29,14 +25,14 @@ pub struct Lent {
 
 // What a record answers, and what it leaves.
 pub struct Stepped {
-    pub reply: [u32; 8],
+    pub reply: [u32; 9],
     pub end: End,
     pub lent: Lent,
 }
 
 // What a call answers, and the end that it leaves.
 pub struct Ran {
-    pub reply: [u32; 8],
+    pub reply: [u32; 9],
     pub end: End,
 }
 
@@ -58,36 +54,22 @@ fn of_ring_call(c: RingCalled) -> Ran
     Ran { reply, end }
 }
 
-// A room or view of `size` bytes, behind the header of block `start`: the number of its question, and where that is 0 its place.
-fn placed(asked: Answer, g: Region, start: u32, size: usize) -> [u32; 8]
-    requires { ⌜ (answerNumber asked ≡ 0 → blockAt g start + 4 ≤ 1048576) × (size ≤ 1048576) ⌝ }
-    ensures { λ r. ⌜ r ≡ reply (answerNumber asked) [] (pick (eqb (answerNumber asked) 0) (blockAt g start + 4) 0) size ⌝ }
-{
-    let number = rows::answered(asked)[0];
-    if number == 0 {
-        let begin = g.blocks + start * g.size + 4;
-        [0, 0, 0, 0, 0, 0, begin, size as u32]
-    } else {
-        [number, 0, 0, 0, 0, 0, 0, size as u32]
-    }
-}
-
-// The room of a reservation.
-fn room(end: End, tx: &mut [u8], start: u32) -> [u32; 8]
+// The room of a reservation: its place, and the bytes of the part that is lent.
+fn room(end: End, tx: &mut [u8], start: u32) -> [u32; 9]
     ensures { λ r. ⌜ r ≡ replyOf (roomOf (endOf end) (length (now (tx .entry))) start) ⌝ }
 {
-    let asked = end.ask_room(start, tx.len());
+    let place = end.room_place(start, tx.len());
     let size = end.room(tx, start).len();
-    placed(asked, end.tx, start, size)
+    rows::placed(place, size)
 }
 
 // The view of a received message.
-fn view(end: End, rx: &[u8], start: u32) -> [u32; 8]
+fn view(end: End, rx: &[u8], start: u32) -> [u32; 9]
     ensures { λ r. ⌜ r ≡ replyOf (viewOf (endOf end) (length (now (rx .entry))) start) ⌝ }
 {
-    let asked = end.ask_view(start, rx.len());
+    let place = end.view_place(start, rx.len());
     let size = end.view(rx, start).len();
-    placed(asked, end.rx, start, size)
+    rows::placed(place, size)
 }
 
 // Takes a packet off the receive ring, into the first n bytes of the buffer.
@@ -173,7 +155,7 @@ pub fn step(
         32 => {
             overwrite(rx, body);
             Stepped {
-                reply: [0, 0, 0, 0, 0, 0, 0, 0],
+                reply: [0; 9],
                 end,
                 lent,
             }
@@ -181,13 +163,13 @@ pub fn step(
         33 => {
             overwrite(tx, body);
             Stepped {
-                reply: [0, 0, 0, 0, 0, 0, 0, 0],
+                reply: [0; 9],
                 end,
                 lent,
             }
         }
         34 => Stepped {
-            reply: [0, 0, 0, 0, 0, 0, 0, 0],
+            reply: [0; 9],
             end,
             lent: Lent {
                 tx: wire::read_u32(body, 0) as usize,

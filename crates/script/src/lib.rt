@@ -34,8 +34,7 @@ fn open(opening: Opening, tx: &[u8], rx: &[u8], buffer: &[u8], out: &mut [u8]) -
         tx: records::bytes(opening.tx),
         rx: records::bytes(opening.rx),
     };
-    let number = rows::answered(answer)[0];
-    let row = rows::row([number, 0, 0, 0, 0, 0, 0, 0], end, tx, rx, buffer);
+    let row = rows::row(rows::answered(answer), end, tx, rx, buffer);
     wire::write_numbers(out, 0, &row);
     Left { end, lent }
 }

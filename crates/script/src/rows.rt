@@ -2,44 +2,58 @@
 ghost use mathlib.Core.Path.{_≡_};
 ghost use Prim.Native.Nat.{_+_, _≤_, _<_};
 ghost use lib.ListN.{length};
-ghost use Rattle.link.specs.Answers.{endOf, answerNumber, answerValues, ringNumber, ringValues};
+ghost use Rattle.link.specs.Answers.{endOf, answerNumber, answerGiven, packetNumber, packetGiven};
 ghost use Rattle.script.specs.Rows.{reply, weighted, sum as sumRule, rowOf};
-use icmsg::RingAnswer;
 use link::Answer;
 use link::End;
+use link::PacketAnswer;
+use link::Place;
 
 // Bytes of a row.
 pub const BYTES: usize = 56;
 
-// What a row begins with: the number, how many values, four values (0 where there are fewer), begin and size of a room or view.
-pub fn answered(a: Answer) -> [u32; 8]
-    ensures { λ r. ⌜ r ≡ reply (answerNumber a) (answerValues a) 0 0 ⌝ }
+// What a row tells of an answer: the number, how many values, four values (0 where there are fewer), begin and size of a room or view, and
+// what is given.
+pub fn answered(a: Answer) -> [u32; 9]
+    ensures { λ r. ⌜ r ≡ reply (answerNumber a) (answerGiven a) 0 0 ⌝ }
 {
     match a {
-        Answer::Accepted => [0; 8],
-        Answer::Run { start, count } => [0, 2, start, count, 0, 0, 0, 0],
+        Answer::Accepted => [0; 9],
+        Answer::Run { start, count } => [0, 2, start, count, 0, 0, 0, 0, 2],
         Answer::Control {
             kind,
             address,
             block,
-        } => [0, 3, kind as u32, address as u32, block as u32, 0, 0, 0],
+        } => [0, 3, kind as u32, address as u32, block as u32, 0, 0, 0, 3],
         Answer::Delivered {
             address,
             block,
             length,
-        } => [0, 3, address as u32, block as u32, length, 0, 0, 0],
-        Answer::Refused(x) => [x.number(), 0, 0, 0, 0, 0, 0, 0],
+        } => [0, 3, address as u32, block as u32, length, 0, 0, 0, 4],
+        Answer::Refused(x) => [x.number(), 0, 0, 0, 0, 0, 0, 0, 0],
     }
 }
 
 // Of start, push and pull: the length, 0 on a refusal.
-pub fn ring_answered(a: RingAnswer) -> [u32; 8]
-    ensures { λ r. ⌜ r ≡ reply (ringNumber a) (ringValues a) 0 0 ⌝ }
+pub fn ring_answered(a: PacketAnswer) -> [u32; 9]
+    ensures { λ r. ⌜ r ≡ reply (packetNumber a) (packetGiven a) 0 0 ⌝ }
 {
     match a {
-        RingAnswer::Accepted { length, index: _ } => [0, 1, length, 0, 0, 0, 0, 0],
-        RingAnswer::Refused(x) => [x.number(), 1, 0, 0, 0, 0, 0, 0],
+        PacketAnswer::Length(k) => [0, 1, k, 0, 0, 0, 0, 0, 1],
+        PacketAnswer::Refused(x) => [x.number(), 1, 0, 0, 0, 0, 0, 0, 1],
     }
+}
+
+// Of a room or view: where it is said to lie, and how many bytes were handed out, which are as many.
+pub fn placed(place: Place, size: usize) -> [u32; 9]
+    requires { ⌜ size ≡ place .size ⌝ }
+    ensures { λ r. ⌜ r ≡ reply (answerNumber (place .answer)) (answerGiven (place .answer)) (place .begin) size ⌝ }
+{
+    let answer = place.answer;
+    let mut reply = answered(answer);
+    reply[6] = place.begin;
+    reply[7] = size as u32;
+    reply
 }
 
 const MODULUS: u64 = 65521;
@@ -77,7 +91,7 @@ fn sum(s: &[u8]) -> u32
 }
 
 // The row of a record that was answered so, and left the end and the memory so.
-pub fn row(begun: [u32; 8], end: End, tx: &[u8], rx: &[u8], buffer: &[u8]) -> [u32; 14]
+pub fn row(begun: [u32; 9], end: End, tx: &[u8], rx: &[u8], buffer: &[u8]) -> [u32; 14]
     ensures { λ r. ⌜ r ≡ rowOf begun (endOf end) (now (tx .entry)) (now (rx .entry)) (now (buffer .entry)) ⌝ }
 {
     let sent = end.sent;
@@ -96,6 +110,6 @@ pub fn row(begun: [u32; 8], end: End, tx: &[u8], rx: &[u8], buffer: &[u8]) -> [u
         sum(tx),
         sum(rx),
         sum(buffer),
-        0,
+        begun[8],
     ]
 }

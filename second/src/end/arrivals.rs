@@ -1,6 +1,6 @@
 //! Control messages from the partner.
 
-use super::answer::Answer;
+use super::answer::{Answer, Given};
 use super::binding::Name;
 use super::messages::{Incoming, Outgoing};
 use super::region::{framed, Region};
@@ -21,15 +21,20 @@ struct Message {
 impl Open {
     pub fn arrival(&mut self, receive: &[u8], control: &[u8]) -> Result<Answer, Refusal> {
         let whole = self.receive.check_whole(receive.len());
+        let long = control.len() > CONTROL;
         let control = read_control(control);
         in_order(Fault::LentLast, whole, control.map(|_| ()))?;
         let [kind, address, block] = control?;
-        match kind {
+        let mut answer = match kind {
             0 => self.data(receive, address, block),
             1 => self.release_data(block),
             2 => self.bound(receive, address, block),
             _ => self.release_bound(address, block),
+        }?;
+        if long && planted(Fault::LongBoundGivesDelivery) {
+            answer.given = answer.given.as_delivery();
         }
+        Ok(answer)
     }
 
     fn data(&mut self, receive: &[u8], address: u8, block: u8) -> Result<Answer, Refusal> {
@@ -38,7 +43,10 @@ impl Open {
         let Message { start, count, k } = self.message(receive, block)?;
         let kept = unless(Fault::SizeInTwoBytes, k, k & 0xFFFF);
         self.incoming.hold(start, count, Incoming::Data { k: kept });
-        Ok(Answer::values(&[address.into(), start, k]))
+        let given = Given::Delivery { address, start, k };
+        let wrong = Given::Control([address, block, k as u8]);
+        let given = unless(Fault::DataGivesControl, given, wrong);
+        Ok(Answer::giving(given))
     }
 
     /// The partner is done with a data message. What it takes was recorded
@@ -72,7 +80,7 @@ impl Open {
             if planted(Fault::BoundHolds) {
                 self.incoming.hold(start, count, Incoming::Data { k });
             }
-            return Ok(Answer::values(&[3, address.into(), start]));
+            return Ok(Answer::giving(Given::control(3, address, start)));
         }
         self.incoming
             .hold(start, count, Incoming::Stored { name, address });

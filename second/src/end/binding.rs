@@ -1,6 +1,6 @@
 //! Endpoints: their names, and how both ends agree on their addresses.
 
-use super::answer::{Answer, Slice, Written};
+use super::answer::{Answer, Given, Slice, Written};
 use super::messages::{Incoming, Outgoing};
 use super::Open;
 use crate::fault::{in_order, planted, unless, Fault};
@@ -114,7 +114,7 @@ impl Open {
             bound: false,
         });
         Ok(Answer {
-            values: vec![2, address.into(), start],
+            given: Given::control(2, address, start),
             written: vec![Written {
                 slice: Slice::Transmit,
                 range: header.start..place.end,
@@ -146,16 +146,17 @@ impl Open {
             address: None,
             bound: false,
         };
-        let mut answer = Answer::default();
+        let wrong = Given::control(3, 0, 0);
+        let mut given = unless(Fault::WaitingGivesControl, Given::Nothing, wrong);
         if let Some((start, address)) = stored {
             endpoint.bind(address);
             if !planted(Fault::TakenBindingHolds) {
                 self.incoming.release(start);
             }
-            answer = Answer::values(&[3, address.into(), start]);
+            given = Given::control(3, address, start);
         }
         self.endpoints.push(endpoint);
-        answer
+        Answer::giving(given)
     }
 
     /// The partner has taken the binding message of this address.

@@ -1,6 +1,8 @@
 //! Messages in blocks: reserving, sending, viewing and giving back.
 
-use super::answer::{Answer, Slice, Written};
+use std::ops::Range;
+
+use super::answer::{Answer, Given, Slice, Written};
 use super::binding::Name;
 use super::region::framed;
 use super::{Open, HEADER};
@@ -30,7 +32,7 @@ impl Open {
     pub fn reserve(&mut self, k: u32) -> Result<Answer, Refusal> {
         let [start, count] = self.free_run(k)?;
         self.outgoing.hold(start, count, Outgoing::Reserved);
-        Ok(Answer::values(&[start, count]))
+        Ok(Answer::giving(Given::Run { start, count }))
     }
 
     /// Start and count of the blocks that a new message of `k` bytes takes.
@@ -49,8 +51,18 @@ impl Open {
         Ok([self.outgoing.lowest_free(count, all)?, count])
     }
 
+    /// Lends a room. Nothing is written: what is in it is the caller's.
+    pub fn room(&mut self, transmit: &mut [u8], start: u32) -> Result<Answer, Refusal> {
+        let place = self.room_place(transmit.len(), start);
+        spoil_room(transmit, &place);
+        Ok(Answer {
+            place: place?,
+            ..Answer::default()
+        })
+    }
+
     /// The place of a room, in a transmit region lent with that length.
-    pub fn room(&mut self, lent_length: usize, start: u32) -> Result<Answer, Refusal> {
+    pub fn room_place(&mut self, lent_length: usize, start: u32) -> Result<Range<usize>, Refusal> {
         self.transmit.check_whole(lent_length)?;
         let run = self.outgoing.find(start, |state| match state {
             Outgoing::Reserved => true,
@@ -58,10 +70,7 @@ impl Open {
             Outgoing::Binding { .. } => false,
         })?;
         let end = self.transmit.block_offset(run.blocks().end);
-        Ok(Answer {
-            place: self.transmit.header(start).end..end,
-            ..Answer::default()
-        })
+        Ok(self.transmit.header(start).end..end)
     }
 
     pub fn send(
@@ -92,7 +101,8 @@ impl Open {
         }
         run.state = Outgoing::Data;
         Ok(Answer {
-            values: vec![0, address, start],
+            // The address is an endpoint's, which has a byte.
+            given: Given::control(0, address as u8, start),
             written: vec![Written {
                 slice: Slice::Transmit,
                 range: self.transmit.header(start),
@@ -143,6 +153,23 @@ impl Open {
             Incoming::Stored { .. } => planted(Fault::DoneOfStored),
         })?;
         self.incoming.release(start);
-        Ok(Answer::values(&[1, 0, start]))
+        let given = Given::control(1, 0, start);
+        let given = unless(Fault::DoneGivesDelivery, given, given.as_delivery());
+        Ok(Answer::giving(given))
+    }
+}
+
+/// Writes what planted faults do to a transmit region whose room was asked for.
+fn spoil_room(transmit: &mut [u8], place: &Result<Range<usize>, Refusal>) {
+    const WRITTEN: u8 = 0xFF;
+    match place {
+        Ok(place) if planted(Fault::RoomWritesBefore) => transmit[place.start - 1] = WRITTEN,
+        Ok(place) if planted(Fault::RoomCleared) => transmit[place.clone()].fill(0),
+        Err(_) if planted(Fault::RefusedRoomWrites) => {
+            if let Some(last) = transmit.last_mut() {
+                *last = WRITTEN;
+            }
+        }
+        _ => {}
     }
 }

@@ -10,7 +10,7 @@ mod region;
 mod rings;
 mod runs;
 
-pub use answer::{Answer, Outcome, Slice};
+pub use answer::{given_name, Answer, Given, Outcome, Slice};
 pub use binding::{Endpoint, LONGEST_NAME, MOST_ENDPOINTS};
 pub use messages::{Incoming, Outgoing};
 pub use region::{number_at, Region, HEADER};
@@ -75,7 +75,9 @@ impl End {
     pub fn open(opening: &Opening) -> (Self, Outcome) {
         match Open::new(opening) {
             Ok(open) => {
-                let outcome = Outcome::new(Ok(Answer::default()));
+                let wrong = Given::Run { start: 0, count: 0 };
+                let given = unless(Fault::OpeningGivesRun, Given::Nothing, wrong);
+                let outcome = Outcome::new(Ok(Answer::giving(given)));
                 (End { open: Some(open) }, outcome)
             }
             Err(refusal) => (End { open: None }, Outcome::new(Err(refusal))),
@@ -86,7 +88,7 @@ impl End {
         Outcome::new(self.answer(call))
     }
 
-    /// A ring call, which has a length to report even if it is refused.
+    /// A ring call, which gives a length even if it is refused.
     pub fn ring_call(
         &mut self,
         call: impl FnOnce(&mut Open) -> Result<Answer, Refusal>,
@@ -95,7 +97,7 @@ impl End {
         let refused = answer.is_err();
         let mut outcome = Outcome::new(answer);
         if refused {
-            outcome.answer.values.push(0);
+            outcome.answer.given = Given::Length(0);
         }
         outcome
     }

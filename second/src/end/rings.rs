@@ -2,7 +2,7 @@
 
 use std::ops::Range;
 
-use super::answer::{Answer, Slice, Written};
+use super::answer::{Answer, Given, Slice, Written};
 use super::region::Region;
 use super::Open;
 use crate::fault::{unless, Fault};
@@ -36,7 +36,7 @@ impl Open {
         let Moved { length, own_index } = ring::push(&region.request, write, transmit, content)?;
         self.write_index = own_index;
 
-        let mut answer = Answer::values(&[length]);
+        let mut answer = Answer::giving(Given::Length(length));
         let packet = region.data_places(write, packet_length(content.len()));
         answer.written.extend(packet.map(transmitted));
         let write_index = region.write_index_place();
@@ -50,7 +50,7 @@ impl Open {
             ring::pull(&region.request, self.read_index, receive, buffer)?;
         self.read_index = own_index;
 
-        let mut answer = Answer::values(&[length]);
+        let mut answer = Answer::giving(Given::Length(length));
         answer.written.push(Written {
             slice: Slice::Receive,
             range: region.read_index_place(),

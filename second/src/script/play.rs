@@ -2,7 +2,7 @@
 
 use super::row::{Row, ROW_BYTES};
 use super::Record;
-use crate::end::{Answer, End, Opening, Outcome, Slice};
+use crate::end::{Answer, End, Open, Opening, Outcome, Slice};
 use crate::fault::{planted, Fault};
 
 /// The slices that a script works on.
@@ -71,12 +71,17 @@ impl Player {
             Record::Start => end.ring_call(|open| open.start(transmit)),
             Record::Pull { buffer_length } => {
                 let buffer = first(memory.buffer, buffer_length.into());
-                end.ring_call(|open| open.pull(receive, buffer))
+                let pull = |open: &mut Open| open.pull(receive, buffer);
+                if planted(Fault::PullGivesNothing) {
+                    end.call(pull)
+                } else {
+                    end.ring_call(pull)
+                }
             }
-            Record::Room { start } => end.call(|open| open.room(transmit.len(), start)),
+            Record::Room { start } => end.call(|open| open.room(transmit, start)),
             Record::View { start } => end.call(|open| open.view(receive, start)),
             Record::RoomQuestion { start, length } => end.call(|open| {
-                open.room(length as usize, start)?;
+                open.room_place(length as usize, start)?;
                 Ok(Answer::default())
             }),
             Record::ViewQuestion { start, length } => end.call(|open| {

@@ -22,7 +22,7 @@ pub const ROW_NAMES: [&str; NUMBERS] = [
     "sum transmit",
     "sum receive",
     "sum buffer",
-    "last",
+    "given",
 ];
 
 /// What sums are taken modulo.
@@ -37,17 +37,17 @@ impl Row {
 
     pub fn new(outcome: &Outcome, free_blocks: [u32; 2], slices: [&[u8]; 3]) -> Self {
         let answer = &outcome.answer;
-        let mut values = answer.values.iter().copied();
-        let mut value = || values.next().unwrap_or(0);
+        let values = answer.given.values();
+        let value = |at| values.get(at).copied().unwrap_or(0);
         let [free_transmit, free_receive] = free_blocks;
         let [transmit, receive, buffer] = slices.map(sum);
         Row([
             outcome.number,
-            answer.values.len() as u32,
-            value(),
-            value(),
-            value(),
-            value(),
+            values.len() as u32,
+            value(0),
+            value(1),
+            value(2),
+            value(3),
             answer.place.start as u32,
             answer.place.len() as u32,
             free_transmit,
@@ -55,7 +55,7 @@ impl Row {
             transmit,
             receive,
             buffer,
-            0,
+            answer.given.number(),
         ])
     }
 
@@ -95,6 +95,12 @@ impl Row {
     pub fn values(&self) -> &[u32] {
         let [_, count, values @ .., _, _, _, _, _, _, _, _] = &self.0;
         &values[..values.len().min(*count as usize)]
+    }
+
+    /// What is given, by its number.
+    pub fn given(&self) -> u32 {
+        let [.., given] = self.0;
+        given
     }
 }
 

@@ -2,12 +2,12 @@
 
 use super::case::{Case, Opponent, Sizes};
 use super::failure;
-use crate::end::Opening;
+use crate::end::{Given, Opening};
 use crate::report::Group;
 use crate::script::{Record, Row, ROW_BYTES};
 
-/// A record, and number and values that must come of it.
-type Step = (Record<'static>, u32, &'static [u32]);
+/// A record, the number that must come of it and what must be given.
+type Step = (Record<'static>, u32, Given);
 
 struct Bench {
     name: &'static str,
@@ -47,21 +47,25 @@ const fn tiny(transmit: [u32; 2], receive: [u32; 2]) -> Opening {
 
 const CONTROL: Record = Record::Push(&[0x00, 0x02, 0x05]);
 
+const fn run(start: u32, count: u32) -> Given {
+    Given::Run { start, count }
+}
+
 const BENCHES: [Bench; 6] = [
     Bench {
         name: "blocks that a message takes",
         opening: USUAL,
         opened: 0,
         steps: &[
-            (Record::Reserve { k: 92 }, 0, &[0, 1]),
-            (Record::Reserve { k: 93 }, 0, &[1, 2]),
-            (Record::Reserve { k: 0 }, 0, &[3, 1]),
-            (Record::Drop { start: 0 }, 0, &[]),
-            (Record::Drop { start: 1 }, 0, &[]),
-            (Record::Drop { start: 3 }, 0, &[]),
-            (Record::Reserve { k: 1532 }, 0, &[0, 16]),
-            (Record::Reserve { k: 0 }, 24, &[]),
-            (Record::Reserve { k: 1533 }, 23, &[]),
+            (Record::Reserve { k: 92 }, 0, run(0, 1)),
+            (Record::Reserve { k: 93 }, 0, run(1, 2)),
+            (Record::Reserve { k: 0 }, 0, run(3, 1)),
+            (Record::Drop { start: 0 }, 0, Given::Nothing),
+            (Record::Drop { start: 1 }, 0, Given::Nothing),
+            (Record::Drop { start: 3 }, 0, Given::Nothing),
+            (Record::Reserve { k: 1532 }, 0, run(0, 16)),
+            (Record::Reserve { k: 0 }, 24, Given::Nothing),
+            (Record::Reserve { k: 1533 }, 23, Given::Nothing),
         ],
         transmit: (0, &[]),
     },
@@ -69,14 +73,14 @@ const BENCHES: [Bench; 6] = [
         name: "binding of `example`",
         opening: USUAL.swapped(),
         opened: 0,
-        steps: &[(Record::Register(b"example"), 0, &[2, 0, 0])],
+        steps: &[(Record::Register(b"example"), 0, Given::Control([2, 0, 0]))],
         transmit: (0x400, b"\x08\0\0\0example\0"),
     },
     Bench {
         name: "packet for data, address 2, block 5",
         opening: USUAL,
         opened: 0,
-        steps: &[(CONTROL, 0, &[3])],
+        steps: &[(CONTROL, 0, Given::Length(3))],
         transmit: (36, &[0x00, 0x03, 0x00, 0x00, 0x00, 0x02, 0x05, 0x00]),
     },
     Bench {
@@ -84,14 +88,14 @@ const BENCHES: [Bench; 6] = [
         opening: tiny([76, 1], [92, 5]),
         opened: 0,
         steps: &[
-            (CONTROL, 0, &[3]),
-            (CONTROL, 0, &[3]),
-            (CONTROL, 0, &[3]),
-            (CONTROL, 0, &[3]),
-            (CONTROL, 0, &[3]),
-            (CONTROL, 0, &[3]),
-            (CONTROL, 0, &[3]),
-            (CONTROL, 10, &[0]),
+            (CONTROL, 0, Given::Length(3)),
+            (CONTROL, 0, Given::Length(3)),
+            (CONTROL, 0, Given::Length(3)),
+            (CONTROL, 0, Given::Length(3)),
+            (CONTROL, 0, Given::Length(3)),
+            (CONTROL, 0, Given::Length(3)),
+            (CONTROL, 0, Given::Length(3)),
+            (CONTROL, 10, Given::Length(0)),
         ],
         transmit: (4, &[56, 0, 0, 0]),
     },
@@ -99,14 +103,14 @@ const BENCHES: [Bench; 6] = [
         name: "44 bytes, one block",
         opening: tiny([44, 1], [44, 1]),
         opened: 0,
-        steps: &[(Record::Room { start: 0 }, 25, &[])],
+        steps: &[(Record::Room { start: 0 }, 25, Given::Nothing)],
         transmit: (0, &[]),
     },
     Bench {
         name: "40 bytes, refused",
         opening: tiny([40, 1], [44, 1]),
         opened: 4,
-        steps: &[(Record::Room { start: 0 }, 6, &[])],
+        steps: &[(Record::Room { start: 0 }, 6, Given::Nothing)],
         transmit: (0, &[]),
     },
 ];
@@ -153,14 +157,13 @@ impl Bench {
     }
 
     fn holds(&self, rows: &[Row], transmit: &[u8]) -> bool {
-        let opened = (self.opened, &[][..]);
-        let steps = self.steps.iter();
-        let stated = steps.map(|(_, number, values)| (*number, *values));
+        let opened = (self.opened, Given::Nothing);
+        let steps = self.steps.iter().map(|&(_, number, given)| (number, given));
+        let stated = [opened].into_iter().chain(steps);
+        let stated = stated.map(|(number, given)| (number, given.values(), given.number()));
+        let rows = rows.iter();
+        let made = rows.map(|row| (row.number(), row.values().to_vec(), row.given()));
         let (offset, bytes) = self.transmit;
-        [opened]
-            .into_iter()
-            .chain(stated)
-            .eq(rows.iter().map(|row| (row.number(), row.values())))
-            && transmit[offset..].starts_with(bytes)
+        stated.eq(made) && transmit[offset..].starts_with(bytes)
     }
 }

@@ -21,7 +21,7 @@ use std::ops::Range;
 use super::case::Case;
 use super::session::Session;
 use super::{names, openings};
-use crate::end::{Incoming, Open, Outcome, Outgoing, Slice, MOST_ENDPOINTS, START_CONTENT};
+use crate::end::{Given, Incoming, Open, Outcome, Outgoing, Slice, MOST_ENDPOINTS, START_CONTENT};
 use crate::random::Random;
 use crate::script::Record;
 
@@ -227,11 +227,10 @@ impl Pair<'_> {
         self.sides[1 - side].unseen.push(unseen);
     }
 
-    /// Three bytes that a call answered are to be pushed.
+    /// Control bytes that a call gave are to be pushed.
     fn answered(&mut self, side: usize, outcome: &Outcome) {
-        if let [kind, address, start] = outcome.answer.values[..] {
-            let control = [kind, address, start].map(|value| value as u8);
-            self.sides[side].to_push.push(control);
+        if let Given::Control(bytes) = outcome.answer.given {
+            self.sides[side].to_push.push(bytes);
         }
     }
 }
@@ -246,9 +245,12 @@ fn pull(pair: &mut Pair, side: usize) -> bool {
         return false;
     }
     pair.sides[1 - side].on_ring -= 1;
+    let Given::Length(length) = outcome.answer.given else {
+        pair.complain("a pull without a length".to_string());
+        return true;
+    };
     let caller = &mut pair.sides[side];
-    let length = outcome.answer.values[0] as usize;
-    let content = caller.session.buffer[..length.min(BUFFER)].to_vec();
+    let content = caller.session.buffer[..BUFFER.min(length as usize)].to_vec();
     if caller.bonded {
         caller.pulled.push(content);
     } else {
@@ -313,7 +315,7 @@ fn arrived(pair: &mut Pair, side: usize, [kind, address, block]: [u8; 3], outcom
             }
         }
         2 => {
-            if !outcome.answer.values.is_empty() {
+            if matches!(outcome.answer.given, Given::Control(_)) {
                 caller.bound.push(address);
             }
             pair.answered(side, outcome);
@@ -324,13 +326,12 @@ fn arrived(pair: &mut Pair, side: usize, [kind, address, block]: [u8; 3], outcom
 
 /// What arrived is what the other side sent.
 fn check_arrived(pair: &mut Pair, side: usize, outcome: &Outcome) {
-    let &[address, start, k] = &outcome.answer.values[..] else {
-        return pair.complain("an arrival without its values".to_string());
+    let Given::Delivery { address, start, k } = outcome.answer.given else {
+        return pair.complain("data without a delivery".to_string());
     };
     let sent = pair.sides[1 - side].sent.get(&start);
-    let as_sent = sent.is_some_and(|message| {
-        u32::from(message.address) == address && message.content.len() as u32 == k
-    });
+    let as_sent =
+        sent.is_some_and(|message| message.address == address && message.content.len() as u32 == k);
     if !as_sent {
         pair.complain(format!("start {start} arrived, address {address}, K {k}"));
     }
@@ -365,8 +366,8 @@ fn register(pair: &mut Pair, side: usize) -> bool {
     }
     let caller = &mut pair.sides[side];
     caller.registered += 1;
-    if let [3, address, _] = outcome.answer.values[..] {
-        caller.bound.push(address as u8);
+    if let Given::Control([3, address, _]) = outcome.answer.given {
+        caller.bound.push(address);
     }
     pair.answered(side, &outcome);
     true
@@ -392,7 +393,7 @@ fn reserve(pair: &mut Pair, side: usize) -> bool {
     };
     let k = k.max(0) as u32;
     let outcome = pair.call(side, Record::Reserve { k }, &[23, 24]);
-    if let [start, _] = outcome.answer.values[..] {
+    if let Given::Run { start, .. } = outcome.answer.given {
         pair.sides[side].reserved.push(start);
     }
     outcome.number == 0

@@ -3,7 +3,7 @@
 use super::case::Case;
 use super::session::Session;
 use super::{names, openings};
-use crate::end::{number_at, Open, Opening, Outgoing, Region, Slice, HEADER, LAST_ADDRESS};
+use crate::end::{number_at, Given, Open, Opening, Outgoing, Region, Slice, HEADER, LAST_ADDRESS};
 use crate::random::Random;
 use crate::ring::{packet, past, LONGEST_CONTENT};
 use crate::ring_hostile::{hostile_index, hostile_length};
@@ -145,10 +145,8 @@ impl Lone<'_> {
             if self.random.one_in(8) {
                 continue;
             }
-            match outcome.answer.values[..] {
-                [2, address, start] => {
-                    self.arrival(&[3, address as u8, start as u8]);
-                }
+            match outcome.answer.given {
+                Given::Control([2, address, start]) => self.arrival(&[3, address, start]),
                 _ => self.binding(0, number as u8, &name),
             }
         }

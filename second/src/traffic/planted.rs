@@ -10,12 +10,13 @@ use crate::report::{Group, Report};
 use crate::Settings;
 
 /// Faults that make changes of a newer partner matter.
-const NEWER_FAULTS: [Fault; 5] = [
+const NEWER_FAULTS: [Fault; 6] = [
     Fault::LongControlRefused,
     Fault::KindOfTwoBits,
     Fault::ReservedBytesRead,
     Fault::SizeReadAgain,
     Fault::BytesBehindNameRefused,
+    Fault::LongBoundGivesDelivery,
 ];
 
 /// Faults that two ends with them notice without a comparison.

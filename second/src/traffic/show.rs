@@ -1,7 +1,7 @@
 //! Rows and scripts in words.
 
 use super::case::{Case, Made, Opponent};
-use crate::end::Opening;
+use crate::end::{given_name, Opening};
 use crate::refusal::outcome_name;
 use crate::script::{Row, ROW_NAMES};
 
@@ -50,13 +50,14 @@ pub fn both(rows: [(&str, Option<&Row>); 2]) -> String {
 }
 
 fn row_line(row: &Row) -> String {
-    let [number, count, _, _, _, _, begin, size, free_transmit, free_receive, transmit, receive, buffer, last] =
+    let [number, count, _, _, _, _, begin, size, free_transmit, free_receive, transmit, receive, buffer, given] =
         row.0;
     let values = row.values();
     format!(
-        "{}, values {count} {values:?}, place {begin}+{size}, free {free_transmit}/{free_receive}, \
-         sums {transmit} {receive} {buffer}, last {last}",
-        outcome_name(number)
+        "{}, given {}, values {count} {values:?}, place {begin}+{size}, \
+         free {free_transmit}/{free_receive}, sums {transmit} {receive} {buffer}",
+        outcome_name(number),
+        given_name(given)
     )
 }
 

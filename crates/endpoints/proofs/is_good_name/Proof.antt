@@ -8,16 +8,16 @@ use Rattle.endpoints.proofs.is_good_name.Statement.{statement}
 use Rattle.endpoints.proofs.is_good_name.Tie as tie
 
 abbrev Inv-loop : tie.InvT-loop
-Inv-loop name n i₀ i = NoneZero name i × (i ≤ n) × (n ≡ length name)
+Inv-loop name longest n i₀ i = NoneZero name i × (i ≤ n) × (n ≡ length name)
 
 abbrev μ-loop : tie.MeasureT-loop
-μ-loop name n i₀ i = n - i
+μ-loop name longest n i₀ i = n - i
 
 returns : tie.Need-returns Inv-loop μ-loop
-returns c = too-short _ (c .if1 .taken)
+returns c = too-short _ _ (c .if1 .taken)
 
 returns-2 : tie.Need-returns-2 Inv-loop μ-loop
-returns-2 c = too-long _ (omega (arith, c .before .if1 .left)) (c .if2 .taken)
+returns-2 c = too-long _ _ (omega (arith, c .before .if1 .left)) (c .if2 .taken)
 
 loop-holds : tie.Need-loop-holds Inv-loop μ-loop
 loop-holds c = (none-yet _, search needs, search needs)
@@ -28,7 +28,7 @@ shared-slice-read-if3 c = search needs
 returns-3 : tie.Need-returns-3 Inv-loop μ-loop
 returns-3 c =
     let l = c .before .before .before .loop in
-    has-zero _ (omega (arith, c .before .before .before .before .before .if1 .left)) (omega (arith, c .before .before .before .before .if2 .left)) (l .inv .0) (c .before .before .loop-test .taken) (c .if3 .taken)
+    has-zero _ _ (omega (arith, c .before .before .before .before .before .if1 .left)) (omega (arith, c .before .before .before .before .if2 .left)) (l .inv .0) (c .before .before .loop-test .taken) (c .if3 .taken)
 
 add-i : tie.Need-add-i Inv-loop μ-loop
 add-i c = search needs
@@ -44,7 +44,7 @@ loop-again c =
 returns-4 : tie.Need-returns-4 Inv-loop μ-loop
 returns-4 c =
     let l = c .before .loop in
-    is-good _ (omega (arith, c .before .before .before .if1 .left)) (omega (arith, c .before .before .if2 .left)) (l .inv .0) (c .loop-test .left)
+    is-good _ _ (omega (arith, c .before .before .before .if1 .left)) (omega (arith, c .before .before .if2 .left)) (l .inv .0) (c .loop-test .left)
 
 pub is-good-name-spec : {M : Type 1} → statement M
 is-good-name-spec =

@@ -1,8 +1,5 @@
-use Prim.Native.Nat.{ℕ}
-use mathlib.Core.Path.{ap, _∙_}
-use mathlib.Core.List.{List}
-use lib.ListN.{getD}
-use Rattle.icbmsg.specs.Opening.{Opened}
+use mathlib.Core.Path.{ap}
+use Rattle.icbmsg.specs.Outcome.{Outcome}
 use borrow.Author.Needs.{needs}
 use Rattle.script.proofs.open.Statement.{statement}
 use Rattle.script.proofs.open.Tie as tie
@@ -19,9 +16,6 @@ bytes-requires-2 c κs = search needs
 answered-requires : tie.Need-answered-requires
 answered-requires c κs = search needs
 
-array-read-number : tie.Need-array-read-number
-array-read-number c = search needs
-
 row-requires : tie.Need-row-requires
 row-requires c κs = search needs
 
@@ -36,9 +30,9 @@ same-length c = search needs
 
 returns : tie.Need-returns
 returns c =
-    let o = c .before .before .before .before .before .before .before .before .before .before .«open» .ensures in
-    let n = ap (λ (l : List ℕ). getD l 0 0) (c .before .before .before .before .before .before .answered .ensures) ∙ ap (λ (d : Opened). d .number) o in
-    (record { end = ap (λ (d : Opened). d .end) o; lentTx = c .before .before .before .before .before .before .before .before .bytes .ensures; lentRx = c .before .before .before .before .before .before .before .bytes2 .ensures }, rw (← n, ← (ap (λ (d : Opened). d .end) o), ← (c .before .before .before .before .before .row .ensures)) (c .before .before .write-numbers .ensures))
+    let o = c .before .before .before .before .before .before .before .before .before .before .«open» .ensures .0 in
+    let w = rw (c .before .before .before .before .before .before .answered .ensures) at (c .before .before .before .before .before .row .ensures) in
+    (record { end = ap (λ (x : Outcome). x .next) o; lentTx = c .before .before .before .before .before .before .before .before .bytes .ensures; lentRx = c .before .before .before .before .before .before .before .bytes2 .ensures }, rw (← o, ← w) (c .before .before .write-numbers .ensures))
 
 pub open-spec : {M : Type 1} → statement M
 open-spec =
@@ -48,7 +42,6 @@ open-spec =
     bytes-requires
     bytes-requires-2
     answered-requires
-    array-read-number
     row-requires
     slice-aggregate-write-numbers
     write-numbers-requires

@@ -19,8 +19,8 @@ slice-aggregate-text c = search needs
 text-requires : tie.Need-text-requires
 text-requires c κs = search needs
 
-ring-answer-requires : tie.Need-ring-answer-requires
-ring-answer-requires c κs = search needs
+packet-answered-requires : tie.Need-packet-answered-requires
+packet-answered-requires c κs = search needs
 
 slice-reshare-prefix-content : tie.Need-slice-reshare-prefix-content
 slice-reshare-prefix-content c = search needs
@@ -52,7 +52,7 @@ pull-spec =
     by-requires
     slice-aggregate-text
     text-requires
-    ring-answer-requires
+    packet-answered-requires
     slice-reshare-prefix-content
     slice-aggregate-content
     content-requires

@@ -118,7 +118,7 @@ unfolding changed
 returns-3 c =
     let a = c .before .before .before .before .before .before .before .before .before .before .before .before .before .before .before .before .before .args in
     let o = initiate-ok (endOf (a .t1)) (now (a .name)) (a .i) _ (c .before .before .before .before .before .before .before .before .before .before .before .before .before .before .least-blocks .ensures) (c .before .before .before .before .before .before .before .before .before .before .before .before .before .if1 .left) _ (ends-at _ _ (c .before .before .before .before .before .before .before .before .before .before .before .lowest-run .ensures .0) _ (c .before .before .before .before .before .before .before .before .before .s .given .1)) in
-    announced (endOf (a .t1)) (now (a .name)) (a .i) _ _ _ _ _ _ (now (a .tx)) _ o (c .before .before .before .before .before .before .unused-address .ensures) (c .before .take-run .ensures) (c .padded .ensures ∙ ap paddedName (bytes-all (now (a .name)))) (c .before .before .before .before .write-binding .ensures)
+    announced (endOf (a .t1)) (now (a .name)) (a .i) _ _ _ _ _ _ (now (a .tx)) _ (c .before .before .before .before .before .before .before .before .before .before .before .before .before .before .least-blocks .ensures) o (c .before .before .before .before .before .before .unused-address .ensures) (c .before .take-run .ensures) (c .padded .ensures ∙ ap paddedName (bytes-all (now (a .name)))) (c .before .before .before .before .write-binding .ensures)
 
 pub initiate-spec : {M : Type 1} → statement M
 initiate-spec =

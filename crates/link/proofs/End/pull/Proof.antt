@@ -37,11 +37,11 @@ ring-of-requires c κs = search needs
 pull-requires : tie.Need-pull-requires
 pull-requires c κs = search needs
 
-enum-told : tie.Need-enum-told
-enum-told c = search needs
+enum-known-x : tie.Need-enum-known-x
+enum-known-x c = search needs
 
-enum-known-answer : tie.Need-enum-known-answer
-enum-known-answer c = search needs
+enum-known-length : tie.Need-enum-known-length
+enum-known-length c = search needs
 
 same-length : tie.Need-same-length
 same-length c = search needs
@@ -51,13 +51,13 @@ same-length-2 c = search needs
 
 returns-2 : tie.Need-returns-2
 returns-2 c =
-    let a = c .before .before .before .before .before .before .before .before .before .before .before .before .before .before .before .args in
+    let a = c .before .before .before .before .before .before .before .before .before .before .before .before .before .before .before .before .args in
     let b = length (now (a .buffer)) in
-    let r = ap (λ (g : Ring). answer (ringPull (length (now (a .rx))) g (a .self .read) b) (now (a .rx))) (c .before .before .before .before .before .before .before .before .ring-of .ensures) in
+    let r = ap (λ (g : Ring). answer (ringPull (length (now (a .rx))) g (a .self .read) b) (now (a .rx))) (c .before .before .before .before .before .before .before .before .before .ring-of .ensures) in
     let o : RingOutcome = answer (ringPull (length (now (a .rx))) (ringOf (a .self .align) (a .self .rx)) (a .self .read) b) (now (a .rx)) in
-    let h = says-no o _ (c .before .before .before .before .before .before .pull .ensures .0 ∙ ap (λ (x : RingOutcome). x .answer) r) _ (c .enum-told .given .1) in
-    let w = pull-refused (endOf (a .self)) (now (a .rx)) b (lent (c .before .before .before .before .before .before .before .before .before .before)) _ _ (c .enum-told .given .1) (refusals .pull (length (now (a .rx))) (ringOf (a .self .align) (a .self .rx)) (a .self .read) b (now (a .rx)) _ h .1) in
-    (w .0, (c .before .before .before .before .before .before .pull .ensures .1 .0 ∙ ap (λ (x : RingOutcome). wrote (now (a .rx)) (x .region)) r ∙ ap (wrote (now (a .rx))) (w .1), c .before .before .before .before .before .before .pull .ensures .1 .1 ∙ ap (λ (x : RingOutcome). wrote (now (a .buffer)) (x .buffer)) r ∙ ap (wrote (now (a .buffer))) (w .2)))
+    let h = says-no o _ (c .before .before .before .before .before .before .before .pull .ensures .0 ∙ ap (λ (x : RingOutcome). x .answer) r) _ (c .before .x .given .1) in
+    let w = pull-refused (endOf (a .self)) (now (a .rx)) b (lent (c .before .before .before .before .before .before .before .before .before .before .before)) _ (refusals .pull (length (now (a .rx))) (ringOf (a .self .align) (a .self .rx)) (a .self .read) b (now (a .rx)) _ h .1) in
+    (w .0, (c .before .before .before .before .before .before .before .pull .ensures .1 .0 ∙ ap (λ (x : RingOutcome). wrote (now (a .rx)) (x .region)) r ∙ ap (wrote (now (a .rx))) (w .1), c .before .before .before .before .before .before .before .pull .ensures .1 .1 ∙ ap (λ (x : RingOutcome). wrote (now (a .buffer)) (x .buffer)) r ∙ ap (wrote (now (a .buffer))) (w .2)))
 
 same-length-3 : tie.Need-same-length-3
 same-length-3 c = search needs
@@ -72,7 +72,7 @@ returns-3 c =
     let b = length (now (a .buffer)) in
     let r = ap (λ (g : Ring). answer (ringPull (length (now (a .rx))) g (a .self .read) b) (now (a .rx))) (c .before .before .before .before .before .before .before .before .before .ring-of .ensures) in
     let o : RingOutcome = answer (ringPull (length (now (a .rx))) (ringOf (a .self .align) (a .self .rx)) (a .self .read) b) (now (a .rx)) in
-    let h = says-yes o _ (c .before .before .before .before .before .before .before .pull .ensures .0 ∙ ap (λ (x : RingOutcome). x .answer) r) _ _ (c .before .answer .given .1) in
+    let h = says-yes o _ (c .before .before .before .before .before .before .before .pull .ensures .0 ∙ ap (λ (x : RingOutcome). x .answer) r) _ _ (c .before .length .given .1) in
     let w = pull-accepted (endOf (a .self)) (now (a .rx)) b (lent (c .before .before .before .before .before .before .before .before .before .before .before)) _ _ h in
     (w .0, (c .before .before .before .before .before .before .before .pull .ensures .1 .0 ∙ ap (λ (x : RingOutcome). wrote (now (a .rx)) (x .region)) r ∙ ap (wrote (now (a .rx))) (w .1), c .before .before .before .before .before .before .before .pull .ensures .1 .1 ∙ ap (λ (x : RingOutcome). wrote (now (a .buffer)) (x .buffer)) r ∙ ap (wrote (now (a .buffer))) (w .2)))
 
@@ -85,8 +85,8 @@ pull-spec =
     returns
     ring-of-requires
     pull-requires
-    enum-told
-    enum-known-answer
+    enum-known-x
+    enum-known-length
     same-length
     same-length-2
     returns-2

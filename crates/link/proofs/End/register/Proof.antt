@@ -28,7 +28,7 @@ lent c = let a = c .before .before .before .before .before .args in is-whole (en
 says : (c : tie.Else1) → let a = c .before .before .before .before .before .args in Whole (endOf (a .self)) (a .self .tx) (length (now (a .tx)))
 says c = let a = c .before .before .before .before .before .args in whole-says (endOf (a .self)) (a .self .tx) (length (now (a .tx))) (lent c)
 
-good : (c : tie.Else2) → goodName (now (c .before .before .before .before .before .before .before .args .name)) ≡ true
+good : (c : tie.Else2) → goodName 31 (now (c .before .before .before .before .before .before .before .args .name)) ≡ true
 good c = sym (c .before .is-good-name .ensures) ∙ not-false _ (c .if2 .left)
 
 taken : (c : tie.After-has) → let a = c .before .before .before .before .before .before .before .before .before .before .before .args in c .has .result ≡ someEndpoint (registered (now (a .name))) (a .self .endpoints)

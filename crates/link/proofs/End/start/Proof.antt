@@ -37,11 +37,11 @@ ring-of-requires c κs = search needs
 start-requires : tie.Need-start-requires
 start-requires c κs = search needs
 
-enum-told : tie.Need-enum-told
-enum-told c = search needs
+enum-known-x : tie.Need-enum-known-x
+enum-known-x c = search needs
 
-enum-known-answer : tie.Need-enum-known-answer
-enum-known-answer c = search needs
+enum-known-length : tie.Need-enum-known-length
+enum-known-length c = search needs
 
 same-length : tie.Need-same-length
 same-length c = search needs
@@ -49,12 +49,12 @@ same-length c = search needs
 returns-2 : tie.Need-returns-2
 unfolding startOf
 returns-2 c =
-    let a = c .before .before .before .before .before .before .before .before .before .before .before .args in
-    let r = ap (λ (g : Ring). ringStart (length (now (a .tx))) g) (c .before .before .before .before .before .ring-of .ensures) in
+    let a = c .before .before .before .before .before .before .before .before .before .before .before .before .args in
+    let r = ap (λ (g : Ring). ringStart (length (now (a .tx))) g) (c .before .before .before .before .before .before .ring-of .ensures) in
     let o : RingOutcome = ringStart (length (now (a .tx))) (ringOf (a .self .align) (a .self .tx)) in
-    let h = says-no o _ (c .before .before .before .before .start .ensures .0 ∙ ap (λ (x : RingOutcome). x .answer) r) _ (c .enum-told .given .1) in
-    let w = push-refused (endOf (a .self)) _ o (lent (c .before .before .before .before .before .before .before)) _ _ (c .enum-told .given .1) (refusals .start (length (now (a .tx))) (ringOf (a .self .align) (a .self .tx)) _ h .1) in
-    (w .0, c .before .before .before .before .start .ensures .1 ∙ ap (λ (x : RingOutcome). wrote (now (a .tx)) (x .region)) r ∙ ap (wrote (now (a .tx))) (w .1))
+    let h = says-no o _ (c .before .before .before .before .before .start .ensures .0 ∙ ap (λ (x : RingOutcome). x .answer) r) _ (c .before .x .given .1) in
+    let w = push-refused (endOf (a .self)) _ o (lent (c .before .before .before .before .before .before .before .before)) _ (refusals .start (length (now (a .tx))) (ringOf (a .self .align) (a .self .tx)) _ h .1) in
+    (w .0, c .before .before .before .before .before .start .ensures .1 ∙ ap (λ (x : RingOutcome). wrote (now (a .tx)) (x .region)) r ∙ ap (wrote (now (a .tx))) (w .1))
 
 same-length-2 : tie.Need-same-length-2
 same-length-2 c = search needs
@@ -65,7 +65,7 @@ returns-3 c =
     let a = c .before .before .before .before .before .before .before .before .before .before .before .before .args in
     let r = ap (λ (g : Ring). ringStart (length (now (a .tx))) g) (c .before .before .before .before .before .before .ring-of .ensures) in
     let o : RingOutcome = ringStart (length (now (a .tx))) (ringOf (a .self .align) (a .self .tx)) in
-    let h = says-yes o _ (c .before .before .before .before .before .start .ensures .0 ∙ ap (λ (x : RingOutcome). x .answer) r) _ _ (c .before .answer .given .1) in
+    let h = says-yes o _ (c .before .before .before .before .before .start .ensures .0 ∙ ap (λ (x : RingOutcome). x .answer) r) _ _ (c .before .length .given .1) in
     let w = push-accepted (endOf (a .self)) _ o (lent (c .before .before .before .before .before .before .before .before)) _ _ h in
     (w .0, c .before .before .before .before .before .start .ensures .1 ∙ ap (λ (x : RingOutcome). wrote (now (a .tx)) (x .region)) r ∙ ap (wrote (now (a .tx))) (w .1))
 
@@ -78,8 +78,8 @@ start-spec =
     returns
     ring-of-requires
     start-requires
-    enum-told
-    enum-known-answer
+    enum-known-x
+    enum-known-length
     same-length
     returns-2
     same-length-2

@@ -1,24 +1,16 @@
-use mathlib.Core.Path.{_≡_, refl, ap, _∙_}
+use mathlib.Core.Path.{_∙_}
 use lib.ListN.{length}
 use denote.Ref.{now}
-use Rattle.icbmsg.specs.Outcome.{Outcome}
-use Rattle.icbmsg.specs.Messages.{roomOf, roomQuestion}
-use Rattle.link.specs.Answers.{answerNumber, endOf}
-use Rattle.script.proofs.Places.{room-handed, begin-small, handed-reply, handed-size}
+use Rattle.icbmsg.specs.Messages.{roomOf}
+use Rattle.link.specs.Answers.{endOf}
+use Rattle.link.proofs.MessageCalls.{room-inside}
+use Rattle.script.proofs.Places.{part-size, part-reply}
 use borrow.Author.Needs.{needs}
 use Rattle.script.proofs.calls.room.Statement.{statement}
 use Rattle.script.proofs.calls.room.Tie as tie
 
-asked : (c : tie.After-ask-room) → let a = c .before .before .args in
-    answerNumber (c .ask-room .result) ≡ roomQuestion (endOf (a .end)) (a .start) (length (now (a .tx))) .number
-asked c = ap (λ (o : Outcome). o .number) (c .ask-room .ensures)
-
-size : (c : tie.After-room) → let a = c .before .before .before .before .args in
-    length (now (c .room .result)) ≡ roomOf (endOf (a .end)) (length (now (a .tx))) (a .start) .size
-size c = let a = c .before .before .before .before .args in handed-size (room-handed (endOf (a .end)) (length (now (a .tx))) (a .start)) (now (a .tx)) _ refl (c .room .ensures .0)
-
-ask-room-requires : tie.Need-ask-room-requires
-ask-room-requires c κs = search needs
+room-place-requires : tie.Need-room-place-requires
+room-place-requires c κs = search needs
 
 room-requires : tie.Need-room-requires
 room-requires c κs = search needs
@@ -26,8 +18,8 @@ room-requires c κs = search needs
 placed-requires : tie.Need-placed-requires
 placed-requires c κs =
     let a = c .before .before .before .before .before .before .args in
-    let h = room-handed (endOf (a .end)) (length (now (a .tx))) (a .start) in
-    (begin-small h _ 0 (asked (c .before .before .before .before)), rw (size (c .before .before)) (h .size))
+    let o = roomOf (endOf (a .end)) (length (now (a .tx))) (a .start) in
+    part-size (c .before .before .before .before .room-place .result) (endOf (a .end)) o (c .before .before .before .before .room-place .ensures) (now (a .tx)) _ (room-inside (endOf (a .end)) (length (now (a .tx))) (a .start)) (c .before .before .room .ensures .0)
 
 same-length : tie.Need-same-length
 same-length c = search needs
@@ -35,8 +27,8 @@ same-length c = search needs
 returns : tie.Need-returns
 returns c =
     let a = c .before .before .before .before .before .before .before .args in
-    let h = room-handed (endOf (a .end)) (length (now (a .tx))) (a .start) in
-    c .placed .ensures ∙ handed-reply h _ _ (asked (c .before .before .before .before .before)) (size (c .before .before .before))
+    let o = roomOf (endOf (a .end)) (length (now (a .tx))) (a .start) in
+    c .placed .ensures ∙ part-reply (c .before .before .before .before .before .room-place .result) (endOf (a .end)) o (c .before .before .before .before .before .room-place .ensures) (now (a .tx)) _ (room-inside (endOf (a .end)) (length (now (a .tx))) (a .start)) (c .before .before .before .room .ensures .0)
 
 pub room-spec : {M : Type 1} → statement M
-room-spec = tie.close (tie.spec ask-room-requires room-requires placed-requires same-length returns)
+room-spec = tie.close (tie.spec room-place-requires room-requires placed-requires same-length returns)

@@ -41,6 +41,9 @@ sum-requires-2 c κs = search needs
 sum-requires-3 : tie.Need-sum-requires-3
 sum-requires-3 c κs = search needs
 
+array-read-t40 : tie.Need-array-read-t40
+array-read-t40 c = search needs
+
 returns : tie.Need-returns
 returns c = rw (c .sum3 .ensures, c .before .sum2 .ensures, c .before .before .sum .ensures, c .before .before .before .free-blocks2 .ensures, c .before .before .before .before .free-blocks .ensures)
 
@@ -61,4 +64,5 @@ row-spec =
     sum-requires
     sum-requires-2
     sum-requires-3
+    array-read-t40
     returns)

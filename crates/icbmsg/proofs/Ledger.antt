@@ -1,0 +1,180 @@
+-- Blocks are held or free by the history of accepted calls: the ledger is the table, at every step.
+use Prim.Native.Nat.{ℕ, _+_, _≤_, _<_}
+use mathlib.Core.Bool.{Bool, true, false}
+use mathlib.Core.Path.{_≡_, refl, sym, _∙_}
+use mathlib.Core.List.{List, [], _∷_}
+use native.Mathlib.Omega.{arith}
+use lib.Dec.{eqb}
+use lib.ListN.{replicate}
+use borrow.Author.Tests.{leb-true, eq-eqb, ne-eqb}
+use Rattle.wire.specs.Choice.{pick}
+use Rattle.blocks.specs.Tables.{entry, freeEntry, freed, taken}
+use Rattle.blocks.specs.WellFormed.{BlockKind, free, inside, leading, blockKind, IsFree, Live, WellFormed}
+use Rattle.blocks.specs.declared.Use.{Use}
+use Rattle.blocks.specs.declared.Use.the-variants.{ReceivedData, StoredBinding}
+use Rattle.blocks.specs.declared.Entry.{Entry}
+use Rattle.blocks.proofs.Tables.{Relation, below, first, later, above, relation, Taken, its-first, its-later, apart, Freed, gone, free-at, freed-view, freed-free, taken-view, free-law, fresh-entry}
+use Rattle.endpoints.specs.declared.Binding.{Binding}
+use Rattle.icbmsg.specs.Outcome.{Given, Outcome}
+use Rattle.icbmsg.specs.Ends.{isOpen, changed}
+use Rattle.icbmsg.specs.Opening.{opening}
+use Rattle.icbmsg.specs.declared.Opening.{Opening}
+use Rattle.icbmsg.specs.Calls.{Call, run, step, left}
+use Rattle.icbmsg.specs.Ledger.{RunChange, Runs, Ledger, noted, enter, entered, noRuns, ledger, runBlocks, runAt, Accounts, ByHistory}
+use Rattle.icbmsg.specs.WellFormed.{heldRun, bindingOf, Stored, Separate}
+use Rattle.icbmsg.specs.Theorems.{Part, Reached, opened, called}
+use Rattle.icbmsg.specs.declared.Region.{Region}
+use Rattle.icbmsg.specs.End.{End}
+use Rattle.icbmsg.proofs.Effects.{SentChange, takes, frees, trims, HeldChange, as-was, receives, finishes, stores, forgets, EndChange, stays, writes, reads, sends, keeps, Effect, refuses, accepts, sound, effect}
+use Rattle.icbmsg.proofs.Separate.{Opens, opens, shuts, how-opened, separate, left-reached}
+use Rattle.icbmsg.proofs.RunsStay.{not-free}
+use Rattle.icbmsg.proofs.Refusals.{numbers-stay}
+
+-- ---- the runs of a table after a change
+
+-- the ledger's runs are the table's
+abbrev Same : Runs → List Entry → Type 0
+Same l t = (s : ℕ) → l s ≡ runAt t s
+
+kind-count : {k : BlockKind} (n : ℕ) → k ≡ leading → runBlocks k n ≡ n
+kind-count n h = rw h
+
+no-count : {k : BlockKind} (n : ℕ) → k ≡ free → runBlocks k n ≡ 0
+no-count n h = rw h
+
+inside-count : {k : BlockKind} (n : ℕ) → k ≡ inside → runBlocks k n ≡ 0
+inside-count n h = rw h
+
+-- n blocks at s noted: at s, and elsewhere
+noted-there : (s n : ℕ) (l : Runs) → noted s n l s ≡ n
+noted-there s n l = rw (eq-eqb s s refl)
+
+noted-elsewhere : (s n : ℕ) (l : Runs) (x : ℕ) → (x ≡ s → ⊥) → noted s n l x ≡ l x
+noted-elsewhere s n l x d = rw (ne-eqb x s d)
+
+-- free blocks taken
+taken-noted : {t t′ : List Entry} {y : Entry} {s n : ℕ} (l : Runs) → Same l t → ((i : ℕ) → Taken t t′ y s n i) → ((i : ℕ) → s ≤ i → i < s + n → IsFree t i) →
+    blockKind (y .usage) ≡ leading → y .count ≡ n → 1 ≤ n → Same (noted s n l) t′
+taken-noted {t} {t′} {y} {s} {n} l h v f k q m x = go (v x)
+  where
+    go : {i : ℕ} → Taken t t′ y s n i → noted s n l i ≡ runAt t′ i
+    go (its-first e) = noted-there s n l ∙ sym (rw (e, kind-count (y .count) k) q)
+    go {i} (its-later p r e) = noted-elsewhere s n l i (omega arith) ∙ h i ∙ no-count (entry t i .count) (f i (omega arith) r) ∙ rw e
+    go {i} (apart p e) = noted-elsewhere s n l i (λ z. p (omega arith) (omega arith)) ∙ h i ∙ rw e
+
+-- a live run freed
+freed-noted : {c : ℕ} {good : Entry → Bool} {t : List Entry} (l : Runs) → Same l t → WellFormed c good t → c ≤ 256 → (s : ℕ) → Live t s → Same (noted s 0 l) (freed t s (entry t s .count))
+freed-noted {t = t} l h w b s a x = go (freed-view w b s a x) (relation s (entry t s .count) x)
+  where
+    go : {i : ℕ} → Freed t (freed t s (entry t s .count)) s (entry t s .count) i → Relation s (entry t s .count) i → noted s 0 l i ≡ runAt (freed t s (entry t s .count)) i
+    go (gone p r e) (below z) = absurd (omega arith)
+    go (gone p r e) first = noted-there s 0 l ∙ rw e
+    go {i} (gone p r e) (later z z′) = noted-elsewhere s 0 l i (omega arith) ∙ h i ∙ inside-count (entry t i .count) (w .others s i a z z′) ∙ rw e
+    go (gone p r e) (above z z′) = absurd (omega arith)
+    go {i} (apart p e) z = noted-elsewhere s 0 l i (λ q. p (omega arith) (omega (arith, w .within s a .0))) ∙ h i ∙ rw e
+
+-- the last entry for a start counts
+noted-again : (s n m : ℕ) (l : Runs) (x : ℕ) → noted s n (noted s m l) x ≡ noted s n l x
+noted-again s n m l x = go (eqb x s)
+  where
+    go : (b : Bool) → pick b n (pick b m (l x)) ≡ pick b n (l x)
+    go true = refl
+    go false = refl
+
+-- a live run trimmed
+trimmed-noted : {c : ℕ} {good : Entry → Bool} {t : List Entry} (l : Runs) → Same l t → WellFormed c good t → c ≤ 256 → (u : Use) (s n a k : ℕ) → Live t s → blockKind u ≡ leading → 1 ≤ n →
+    n ≤ entry t s .count → Same (noted s n l) (taken (freed t s (entry t s .count)) u s n a k)
+trimmed-noted l h w b u s n a k v su o m x =
+    sym (noted-again s n 0 l x)
+    ∙ taken-noted (noted s 0 l) (freed-noted l h w b s v) (taken-view (free-law w b s v) b u s n a k o (omega (arith, w .within s v .1))) (freed-free w b s n v m) su refl o x
+
+-- ---- an end after a call
+
+record Matches (l : Ledger) (e : End) : Type 0 where
+  sent : Same (l .sent) (e .sent)
+  held : Same (l .held) (e .held)
+
+sent-matches : {c : ℕ} {good : Entry → Bool} {t t′ : List Entry} {d : RunChange} (l : Ledger) → WellFormed c good t → c ≤ 256 → SentChange c good t d t′ → Same (l .sent) t →
+    (x : ℕ) → (enter d l .sent x ≡ runAt t′ x) × (enter d l .held x ≡ l .held x)
+sent-matches {t = t} l w b (takes u s n a k su g f o m) h x = (taken-noted (l .sent) h (taken-view w b u s n a k o m) (λ i p q. free-at t s n i f p q) su refl o x, refl)
+sent-matches l w b (frees s v) h x = (freed-noted (l .sent) h w b s v x, refl)
+sent-matches l w b (trims u s n a k v su g o m) h x = (trimmed-noted (l .sent) h w b u s n a k v su o m x, refl)
+
+held-matches : {g : Region} {t t′ : List Entry} {bs bs′ : List Binding} {d : RunChange} (l : Ledger) → WellFormed (g .count) (heldRun g) t → Stored t bs → g .count ≤ 256 → HeldChange g t bs d t′ bs′ →
+    Same (l .held) t → (x : ℕ) → (enter d l .sent x ≡ l .sent x) × (enter d l .held x ≡ runAt t′ x)
+held-matches l w st b as-was h x = (refl, h x)
+held-matches {t = t} l w st b (receives s n a k y f o m) h x = (refl, taken-noted (l .held) h (taken-view w b ReceivedData s n a k o m) (λ i p q. free-at t s n i f p q) refl refl o x)
+held-matches l w st b (finishes s y) h x = (refl, freed-noted (l .held) h w b s (rw y) x)
+held-matches {t = t} l w st b (stores s n a j name f o m lj z) h x = (refl, taken-noted (l .held) h (taken-view w b StoredBinding s n a 0 o m) (λ i p q. free-at t s n i f p q) refl refl o x)
+held-matches {bs = bs} l w st b (forgets j lj k) h x =
+    let r = st .runs j k in
+    (refl, rw (← (r .1)) (freed-noted (l .held) h w b (bindingOf bs j .start) (rw (r .0)) x))
+
+matches : {e e′ : End} {d : RunChange} (l : Ledger) → isOpen e ≡ true → Separate e → EndChange e d e′ → Matches l e → Matches (enter d l) e′
+unfolding changed
+matches l o w stays h = h
+matches l o w (writes x q) h = record { sent = h .sent; held = h .held }
+matches l o w (reads x q) h = record { sent = h .sent; held = h .held }
+matches {e} l o w (sends ps c q) h =
+    let z = sound e o in
+    let b : e .tx .count ≤ 256 = omega (arith, leb-true) in
+    record { sent = λ x. sent-matches l (w .sent) b c (h .sent) x .0; held = λ x. sent-matches l (w .sent) b c (h .sent) x .1 ∙ h .held x }
+matches {e} l o w (keeps ps c q) h =
+    let z = sound e o in
+    let b : e .rx .count ≤ 256 = omega (arith, leb-true) in
+    record { sent = λ x. held-matches l (w .held) (w .stored) b c (h .held) x .0 ∙ h .sent x; held = λ x. held-matches l (w .held) (w .stored) b c (h .held) x .1 }
+
+step-matches : (e : End) (c : Call) (l : Ledger) → Separate e → Matches l e → Matches (entered (e .tx) (e .rx) c (step e c .number) (step e c .given) l) (step e c .next)
+step-matches e c l w h = go (effect e c)
+  where
+    go : {f : Given → RunChange} {p : Part} {o : Outcome} → Effect f e p o → Matches (pick (eqb (o .number) 0) (enter (f (o .given)) l) l) (o .next)
+    go (refuses n q) = rw (ne-eqb n 0 (λ (z : n ≡ 0). omega (arith, leb-true 1 n q))) h
+    go (accepts z o p m) = rw z (matches l o w m h)
+
+-- ---- a list of calls
+
+-- no call changes the regions' numbers, so those of the opening are those of each end
+all-match : (t r : Region) (e : End) → Reached e → t ≡ e .tx → r ≡ e .rx → (cs : List Call) (l : Ledger) → Matches l e → Matches (ledger t r cs (run e cs) l) (left e cs)
+unfolding run
+all-match t r e x p q [] l h = h
+all-match t r e x p q (c ∷ cs) l h =
+    let n = numbers-stay e c in
+    all-match t r (step e c .next) (called c x) (p ∙ sym (n .tx)) (q ∙ sym (n .rx)) cs _ (rw (p, q) (step-matches e c l (separate e x) h))
+
+-- ---- what the ledger says of each block
+
+module _ {c : ℕ} {good : Entry → Bool} {t : List Entry} (w : WellFormed c good t) {l : Runs} (h : Same l t) where
+  free-none : (i : ℕ) → IsFree t i → (s : ℕ) → s ≤ i → i < s + l s → ⊥
+  free-none i f s p q = go (blockKind (entry t s .usage)) refl
+    where
+      go : (k : BlockKind) → blockKind (entry t s .usage) ≡ k → ⊥
+      go free z = omega (arith, h s ∙ no-count (entry t s .count) z)
+      go inside z = omega (arith, h s ∙ inside-count (entry t s .count) z)
+      go leading z = not-free w s z i (p, omega (arith, h s ∙ kind-count (entry t s .count) z)) f
+
+  none-free : (i : ℕ) → ((s : ℕ) → s ≤ i → i < s + l s → ⊥) → IsFree t i
+  none-free i f = go (blockKind (entry t i .usage)) refl
+    where
+      go : (k : BlockKind) → blockKind (entry t i .usage) ≡ k → IsFree t i
+      go free z = z
+      go inside z = let o = w .owner i z in absurd (f (o .0) (omega (arith, o .2)) (omega (arith, o .3, h (o .0) ∙ kind-count (entry t (o .0) .count) (o .1))))
+      go leading z = absurd (f i (omega arith) (omega (arith, w .within i z .0, h i ∙ kind-count (entry t i .count) z)))
+
+  accounts : Accounts l t
+  accounts = record { runs = h; free = λ i. (free-none i, none-free i) }
+
+-- ---- THE THEOREM
+
+fresh-matches : (n s : ℕ) → 0 ≡ runAt (replicate n freeEntry) s
+fresh-matches n s = rw (fresh-entry n s)
+
+opened-matches : {o : Opening} {x : Outcome} → Opens o x → Matches noRuns (x .next)
+opened-matches (opens p q) = record { sent = fresh-matches 256; held = fresh-matches 256 }
+opened-matches (shuts n h) = record { sent = fresh-matches 256; held = fresh-matches 256 }
+
+pub by-history : ByHistory
+by-history o cs =
+    let e : End = opening o .next in
+    let m = all-match (e .tx) (e .rx) e (opened o) refl refl cs noRuns (opened-matches (how-opened o)) in
+    let w = separate (left e cs) (left-reached e cs (opened o)) in
+    (accounts (w .sent) (m .sent), accounts (w .held) (m .held))

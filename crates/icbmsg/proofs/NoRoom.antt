@@ -1,0 +1,128 @@
+-- What reserving gives, for reserve and for register: too long, no room, or the lowest run.
+use Prim.Native.Nat.{ℕ, _+_, _≤_, _<_}
+use mathlib.Core.Bool.{Bool, true, false, not, _&&_, false≢true}
+use mathlib.Core.Path.{_≡_, refl, sym, _∙_}
+use mathlib.Core.List.{List}
+use native.Mathlib.Omega.{arith}
+use lib.Dec.{leb}
+use lib.ListN.{length}
+use borrow.Author.Tests.{leb-true, leb-false, le-leb, not-true}
+use Rattle.wire.specs.Choice.{pick}
+use Rattle.blocks.specs.Search.{Search, nowhere, foundAt}
+use Rattle.blocks.specs.Tables.{allFree, freeRun}
+use Rattle.blocks.proofs.LeastBlocks.{blocks-hold, blocks-least, blocks-one}
+use Rattle.blocks.proofs.Search.{lowest-at, none-lowest}
+use Rattle.blocks.proofs.Tables.{free-at, all-free}
+use Rattle.endpoints.specs.Endpoints.{at, isUnused, registered, endpointAt, bindingAt, someEndpoint, unusedFrom, holds, goodName}
+use Rattle.icbmsg.specs.Outcome.{Outcome, check}
+use Rattle.icbmsg.specs.Ends.{isOpen, whole, foundOr}
+use Rattle.icbmsg.specs.Messages.{need, reserving, reservation, reserveOf}
+use Rattle.icbmsg.specs.Registering.{announcement, followed, initiates, registerOf}
+use Rattle.icbmsg.specs.Calls.{reserve, register, rule, lent, step}
+use Rattle.icbmsg.specs.Theorems.{FreeRun, Crowded, Reserves, too-long, no-room, at-lowest, Registers, NeedLeast, ReserveSays, NoRoom}
+use Rattle.icbmsg.specs.End.{End}
+use Rattle.icbmsg.proofs.Effects.{sound, whole-open}
+
+-- LEAST. The need is the least number of blocks that hold K + 4 bytes.
+pub need-least : NeedLeast
+need-least e k o =
+    let z = sound e o in
+    let p : 0 < e .tx .size = omega (arith, leb-true) in
+    (blocks-hold (e .tx .size) k p, λ n h. blocks-least (e .tx .size) k n h p)
+
+-- what reserving K bytes gives at an open end, whatever is done with the run
+module _ (e : End) (k : ℕ) (open-end : isOpen e ≡ true) where
+  one : 1 ≤ need e k
+  one = let z = sound e open-end in blocks-one (e .tx .size) k (omega (arith, leb-true))
+
+  -- no start where the test failed
+  none-at : (i : ℕ) → (leb (i + need e k) (e .tx .count) && allFree (e .sent) i (need e k)) ≡ false → FreeRun e (need e k) i → ⊥
+  none-at i h f = false≢true (sym h ∙ rw (le-leb (i + need e k) (e .tx .count) (f .0)) (all-free (e .sent) i (need e k) (f .1)))
+
+  reserves : (f : ℕ → Outcome) → Reserves e k f (reserving e k f)
+  unfolding freeRun
+  reserves f = go (leb (need e k) (e .tx .count)) (freeRun (e .tx .count) (e .sent) (need e k)) refl refl
+    where
+      go : (b : Bool) (q : Search) → leb (need e k) (e .tx .count) ≡ b → freeRun (e .tx .count) (e .sent) (need e k) ≡ q → Reserves e k f (check b 23 e (foundOr 24 e f q))
+      go false q h r = too-long (leb-false (need e k) (e .tx .count) h)
+      go true nowhere h r =
+          no-room (record {
+            could-fit = leb-true (need e k) (e .tx .count) h;
+            no-run = λ s z. none-at s (none-lowest (e .tx .count) (e .sent) 0 (need e k) (e .tx .count) r s (omega arith) (omega (arith, z .0, one))) z;
+          })
+      go true (foundAt s) h r =
+          let w = lowest-at (e .tx .count) (e .sent) 0 (need e k) (e .tx .count) s r in
+          at-lowest s (leb-true (need e k) (e .tx .count) h) (w .room, λ i p q. free-at (e .sent) s (need e k) i (w .free-there) p q)
+          (λ i l z. none-at i (w .least i (omega arith) l) z)
+
+-- ---- register: at an open end, past its checks, it reserves
+
+register-reserves : (e : End) (tx n : List ℕ) (i : ℕ) → Registers e tx n i → step e (register tx n) ≡ initiates e n i
+unfolding step rule lent registerOf
+register-reserves e tx n i h = rw (h .lent, h .name, h .unregistered, h .place, h .initiator)
+
+pub reserve-says : ReserveSays
+unfolding step rule lent reserveOf initiates
+reserve-says =
+    record {
+      reserve = λ e k o. rw o (reserves e k o (reservation e k));
+      register = λ e tx n i h.
+          rw (register-reserves e tx n i h)
+          (reserves e (length n + 1) (whole-open e (e .tx) (length tx) (h .lent)) (announcement e n i (unusedFrom 8 0 (e .endpoints))));
+    }
+
+-- ---- 24
+
+-- the number of what reserving gives, where an accepted call's is 0
+module _ {e : End} {k : ℕ} {f : ℕ → Outcome} (z : (s : ℕ) → f s .number ≡ 0) where
+  is-crowded : {x : Outcome} → Reserves e k f x → x .number ≡ 24 → Crowded e k
+  is-crowded (too-long l) h = absurd (omega arith)
+  is-crowded (no-room c) h = c
+  is-crowded (at-lowest s l r m) h = absurd (omega (arith, z s))
+
+  crowded-is : {x : Outcome} → Reserves e k f x → Crowded e k → x .number ≡ 24
+  crowded-is (too-long l) c = absurd (omega (arith, c .could-fit))
+  crowded-is (no-room c) _ = refl
+  crowded-is (at-lowest s l r m) c = absurd (c .no-run s r)
+
+-- an outcome whose number is 24 tells A: only past the checks before it
+record Tells (A : Type 0) (o : Outcome) : Type 0 where
+  at-24 : o .number ≡ 24 → A
+
+past : {A : Type 0} {o : Outcome} (e : End) (b : Bool) (n : ℕ) → (n ≡ 24 → ⊥) → (b ≡ true → Tells A o) → Tells A (check b n e o)
+past e true n d k = k refl
+past e false n d k = record { at-24 = λ h. absurd (d h) }
+
+past-found : {A : Type 0} {o : ℕ → Outcome} (e : End) (q : Search) (n : ℕ) → (n ≡ 24 → ⊥) → ((i : ℕ) → q ≡ foundAt i → Tells A (o i)) → Tells A (foundOr n e o q)
+past-found e nowhere n d k = record { at-24 = λ h. absurd (d h) }
+past-found e (foundAt i) n d k = k i refl
+
+follower-not : {A : Type 0} (e : End) (n : List ℕ) (i : ℕ) (q : Search) → Tells A (followed e n i q)
+follower-not e n i nowhere = record { at-24 = λ h. absurd (omega arith) }
+follower-not e n i (foundAt j) = record { at-24 = λ h. absurd (omega arith) }
+
+reserve-24 : (e : End) (k : ℕ) → Tells ((isOpen e ≡ true) × Crowded e k) (step e (reserve k))
+unfolding step rule lent reserveOf
+reserve-24 e k = past e (isOpen e) 6 (λ d. omega arith) λ o. record { at-24 = λ h. (o, is-crowded (λ s. refl) (reserves e k o (reservation e k)) h) }
+
+register-24 : (e : End) (tx n : List ℕ) → Tells ((i : ℕ) × Registers e tx n i × Crowded e (length n + 1)) (step e (register tx n))
+unfolding step rule lent registerOf initiates
+register-24 e tx n =
+    past e (whole e (e .tx) (length tx)) 6 (λ d. omega arith) λ w.
+    past e (goodName 31 n) 20 (λ d. omega arith) λ g.
+    past e (not (someEndpoint (registered n) (e .endpoints))) 21 (λ d. omega arith) λ u.
+    past-found e (endpointAt (at isUnused) (e .endpoints)) 22 (λ d. omega arith) λ i p.
+    go (e .initiator) i refl (λ l. record { lent = w; name = g; unregistered = not-true _ u; place = p; initiator = l }) (whole-open e (e .tx) (length tx) w)
+  where
+    go : (r : Bool) (i : ℕ) → e .initiator ≡ r → (e .initiator ≡ true → Registers e tx n i) → isOpen e ≡ true →
+        Tells ((i : ℕ) × Registers e tx n i × Crowded e (length n + 1))
+        (pick r (reserving e (length n + 1) (announcement e n i (unusedFrom 8 0 (e .endpoints)))) (followed e n i (bindingAt (holds (e .rx .count) n) (e .bindings))))
+    go true i r k o = record { at-24 = λ h. (i, k r, is-crowded (λ s. refl) (reserves e (length n + 1) o (announcement e n i (unusedFrom 8 0 (e .endpoints)))) h) }
+    go false i r k o = follower-not e n i (bindingAt (holds (e .rx .count) n) (e .bindings))
+
+pub no-room-exactly : NoRoom
+no-room-exactly =
+    record {
+      reserve = λ e k. (reserve-24 e k .at-24, λ h. crowded-is (λ s. refl) (reserve-says .reserve e k (h .0)) (h .1));
+      register = λ e tx n. (register-24 e tx n .at-24, λ h. crowded-is (λ s. refl) (reserve-says .register e tx n (h .0) (h .1)) (h .2));
+    }

@@ -1,0 +1,149 @@
+-- The ledger: which runs of blocks are live, by the calls that were made and their answers alone.
+use Prim.Native.Nat.{ℕ, _+_, _≤_, _<_}
+use mathlib.Core.Path.{_≡_}
+use mathlib.Core.Logic.{_↔_}
+use mathlib.Core.List.{List, [], _∷_}
+use lib.Dec.{eqb}
+use lib.ListN.{length}
+use Rattle.wire.specs.Choice.{pick}
+use Rattle.blocks.specs.Tables.{entry, blocksFor}
+use Rattle.blocks.specs.WellFormed.{BlockKind, free, inside, leading, blockKind, IsFree}
+use Rattle.blocks.specs.declared.Entry.{Entry}
+use Rattle.icbmsg.specs.Outcome.{Given, nothing, aLength, aRun, control, delivery, Outcome}
+use Rattle.icbmsg.specs.Opening.{opening}
+use Rattle.icbmsg.specs.declared.Opening.{Opening}
+use Rattle.icbmsg.specs.Arrivals.{decode, sizeAt}
+use Rattle.icbmsg.specs.declared.Control.{Control}
+use Rattle.icbmsg.specs.declared.Control.the-variants.{TooShort, UnknownKind, DataSent, DataReleased, BindingSent, BindingReleased}
+use Rattle.icbmsg.specs.Calls.{Call, start, push, pull, reserve, room, send, drop, arrival, view, done, register, askRoom, askView, run, left}
+use Rattle.icbmsg.specs.declared.Region.{Region}
+use Rattle.icbmsg.specs.End.{End}
+
+-- ---- what a call does to the runs
+
+-- nothing; or in the transmit blocks (sent) or the receive blocks (held) a run of n blocks at s is taken, the one at s is trimmed to n
+-- blocks, or freed
+pub data RunChange : Type 0 where
+  no-change : RunChange
+  sent-takes : (s n : ℕ) → RunChange
+  sent-trims : (s n : ℕ) → RunChange
+  sent-frees : (s : ℕ) → RunChange
+  held-takes : (s n : ℕ) → RunChange
+  held-frees : (s : ℕ) → RunChange
+
+-- an accepted reserve takes the run that it answers
+abbrev pub reserveChange : Given → RunChange
+reserveChange nothing = no-change
+reserveChange (aLength k) = no-change
+reserveChange (aRun s n) = sent-takes s n
+reserveChange (control k a b) = no-change
+reserveChange (delivery a b k) = no-change
+
+-- a delivery takes as many blocks, of z bytes each, as its K needs
+abbrev pub deliveryChange : ℕ → Given → RunChange
+deliveryChange z nothing = no-change
+deliveryChange z (aLength k) = no-change
+deliveryChange z (aRun s n) = no-change
+deliveryChange z (control k a b) = no-change
+deliveryChange z (delivery a b k) = held-takes b (blocksFor z k)
+
+-- a binding in the n blocks at s that is accepted without an answer is stored, and holds them
+abbrev pub storedChange : ℕ → ℕ → Given → RunChange
+storedChange s n nothing = held-takes s n
+storedChange s n (aLength k) = no-change
+storedChange s n (aRun x m) = no-change
+storedChange s n (control k a b) = no-change
+storedChange s n (delivery a b k) = no-change
+
+-- a register that answers 02 takes n blocks, one that answers 03 frees those of the stored binding
+abbrev pub registerChange : ℕ → Given → RunChange
+registerChange n nothing = no-change
+registerChange n (aLength k) = no-change
+registerChange n (aRun s m) = no-change
+registerChange n (control k a s) = pick (eqb k 2) (sent-takes s n) (held-frees s)
+registerChange n (delivery a b k) = no-change
+
+-- rx are the bytes that the arrival itself was lent
+abbrev pub arrivalChange : Region → List ℕ → Control → Given → RunChange
+arrivalChange r rx UnknownKind g = no-change
+arrivalChange r rx TooShort g = no-change
+arrivalChange r rx (DataSent a b) g = deliveryChange (r .size) g
+arrivalChange r rx (DataReleased b) g = sent-frees b
+arrivalChange r rx (BindingSent a b) g = storedChange b (blocksFor (r .size) (sizeAt r b rx)) g
+arrivalChange r rx (BindingReleased a b) g = sent-frees b
+
+-- An accepted call, by its arguments and what came with its answer. t and r are the regions' numbers, which no call changes.
+unfoldable pub runChange : Region → Region → Call → Given → RunChange
+runChange t r (start tx) g = no-change
+runChange t r (push tx c) g = no-change
+runChange t r (pull rx b) g = no-change
+runChange t r (reserve k) g = reserveChange g
+runChange t r (room tx s) g = no-change
+runChange t r (send tx s a k) g = sent-trims s (blocksFor (t .size) k)
+runChange t r (drop s) g = sent-frees s
+runChange t r (arrival rx m) g = arrivalChange r rx (decode m) g
+runChange t r (view rx s) g = no-change
+runChange t r (done s) g = held-frees s
+runChange t r (register tx n) g = registerChange (blocksFor (t .size) (length n + 1)) g
+runChange t r (askRoom s n) g = no-change
+runChange t r (askView s n) g = no-change
+
+-- ---- the ledger
+
+-- for each start, how many blocks the live run there has; 0 where none is
+abbrev pub Runs : Type 0
+Runs = ℕ → ℕ
+
+pub record Ledger : Type 0 where
+  pub sent : Runs
+  pub held : Runs
+
+-- the run at s has n blocks from now on
+abbrev pub noted : ℕ → ℕ → Runs → Runs
+noted s n l x = pick (eqb x s) n (l x)
+
+abbrev pub enter : RunChange → Ledger → Ledger
+enter no-change l = l
+enter (sent-takes s n) l = record { sent = noted s n (l .sent); held = l .held }
+enter (sent-trims s n) l = record { sent = noted s n (l .sent); held = l .held }
+enter (sent-frees s) l = record { sent = noted s 0 (l .sent); held = l .held }
+enter (held-takes s n) l = record { sent = l .sent; held = noted s n (l .held) }
+enter (held-frees s) l = record { sent = l .sent; held = noted s 0 (l .held) }
+
+-- a call with the number n, and what came with it: a refusal is not entered
+abbrev pub entered : Region → Region → Call → ℕ → Given → Ledger → Ledger
+entered t r c n g l = pick (eqb n 0) (enter (runChange t r c g) l) l
+
+abbrev pub noRuns : Ledger
+noRuns = record { sent = λ s. 0; held = λ s. 0 }
+
+-- calls with their outcomes, of which number and what came with it are entered
+abbrev pub ledger : Region → Region → List Call → List Outcome → Ledger → Ledger
+ledger t r [] os l = l
+ledger t r (c ∷ cs) [] l = l
+ledger t r (c ∷ cs) (o ∷ os) l = ledger t r cs os (entered t r c (o .number) (o .given) l)
+
+-- ---- THE STATEMENT
+
+-- the blocks of the run that a table's entry starts, where it starts one
+abbrev pub runBlocks : BlockKind → ℕ → ℕ
+runBlocks free n = 0
+runBlocks inside n = 0
+runBlocks leading n = n
+
+abbrev pub runAt : List Entry → ℕ → ℕ
+runAt t s = runBlocks (blockKind (entry t s .usage)) (entry t s .count)
+
+-- the runs are the table's, and a block is free exactly if no run has it
+pub record Accounts (l : Runs) (t : List Entry) : Type 0 where
+  pub runs : (s : ℕ) → l s ≡ runAt t s
+  pub free : (i : ℕ) → IsFree t i ↔ ((s : ℕ) → s ≤ i → i < s + l s → ⊥)
+
+-- Held or free by the history of accepted calls: for every opening and every list of calls, with any bytes lent, the tables of the end that
+-- they leave are those of the ledger.
+abbrev pub ByHistory : Type 0
+ByHistory =
+    (o : Opening) (cs : List Call) →
+    let e : End = opening o .next in
+    let l : Ledger = ledger (e .tx) (e .rx) cs (run e cs) noRuns in
+    Accounts (l .sent) (left e cs .sent) × Accounts (l .held) (left e cs .held)

@@ -1,0 +1,102 @@
+-- Where the parts that calls hand out lie, and where calls write.
+use Prim.Native.Nat.{ℕ, _+_, _*_, _≤_, _<_}
+use mathlib.Core.Path.{_≡_}
+use mathlib.Core.Logic.{_≢_}
+use mathlib.Core.List.{List, []}
+use lib.Dec.{eqb}
+use lib.ListN.{length}
+use Rattle.wire.specs.Choice.{pick}
+use Rattle.wire.specs.Bytes.{Within, Inside}
+use Rattle.icmsg.specs.Laws.{InRing}
+use Rattle.blocks.specs.Tables.{entry}
+use Rattle.blocks.specs.WellFormed.{Live}
+use Rattle.blocks.specs.declared.Entry.{Entry}
+use Rattle.icbmsg.specs.Outcome.{Given, nothing, aLength, aRun, control, delivery, Outcome}
+use Rattle.icbmsg.specs.Ends.{blockAt}
+use Rattle.icbmsg.specs.Rings.{ringOf}
+use Rattle.icbmsg.specs.Messages.{need}
+use Rattle.icbmsg.specs.Calls.{Call, start, push, pull, reserve, room, send, drop, arrival, view, done, register, askRoom, askView, lent, step}
+use Rattle.icbmsg.specs.Theorems.{Reached, Part, no-part, length-part, room-part, view-part, partOf}
+use Rattle.icbmsg.specs.declared.Region.{Region}
+use Rattle.icbmsg.specs.End.{End}
+
+-- ---- parts
+
+-- It is a part of the message at s, whose run is live: after the header, before the end of the last block, and inside the region's blocks.
+pub record InMessage (g : Region) (t : List Entry) (s : ℕ) (o : Outcome) : Type 0 where
+  pub live : Live t s
+  pub after-header : blockAt g s + 4 ≤ o .begin
+  pub before-end : o .begin + o .size ≤ blockAt g s + entry t s .count * g .size
+  pub first-block : g .blocks ≤ o .begin
+  pub last-block : o .begin + o .size ≤ g .blocks + g .count * g .size
+
+abbrev pub PartIn : End → Part → Outcome → Type 0
+PartIn e no-part o = (o .begin ≡ 0) × (o .size ≡ 0)
+PartIn e length-part o = (o .begin ≡ 0) × (o .size ≡ 0)
+PartIn e (room-part s) o = InMessage (e .tx) (e .sent) s o
+PartIn e (view-part s) o = InMessage (e .rx) (e .held) s o
+
+-- The part that an accepted call hands out lies inside its own message: a room's in the transmit region, a view's in the receive
+-- region. Every other call hands out none.
+abbrev pub PartsInside : Type 0
+PartsInside = (e : End) (c : Call) → step e c .number ≡ 0 → PartIn e (partOf c) (step e c)
+
+-- byte p is in the part that is handed out
+abbrev pub InPart : Outcome → ℕ → Type 0
+InPart o p = (o .begin ≤ p) × (p < o .begin + o .size)
+
+-- rooms of different starts share no byte, and neither do views
+abbrev pub PartsApart : Type 0
+PartsApart =
+    (e : End) → Reached e → (s s′ : ℕ) → s ≢ s′ → (p : ℕ) →
+    ((tx tx′ : List ℕ) → InPart (step e (room tx s)) p → InPart (step e (room tx′ s′)) p → ⊥)
+    × ((rx rx′ : List ℕ) → InPart (step e (view rx s)) p → InPart (step e (view rx′ s′)) p → ⊥)
+
+-- ---- writes
+
+-- where a call writes: nowhere, on the ring that it sends or receives on, or in the n transmit blocks at s, which are its message's
+pub data Area : Type 0 where
+  no-area tx-ring rx-ring : Area
+  own-run : (s n : ℕ) → Area
+
+-- a register that answers 02 writes its binding to the blocks that it takes
+abbrev pub registerArea : End → List ℕ → Given → Area
+registerArea e n nothing = no-area
+registerArea e n (aLength k) = no-area
+registerArea e n (aRun s m) = no-area
+registerArea e n (control k a s) = pick (eqb k 2) (own-run s (need e (length n + 1))) no-area
+registerArea e n (delivery a b k) = no-area
+
+unfoldable pub areaOf : End → Call → Given → Area
+areaOf e (start tx) g = tx-ring
+areaOf e (push tx c) g = tx-ring
+areaOf e (pull rx b) g = rx-ring
+areaOf e (reserve k) g = no-area
+areaOf e (room tx s) g = no-area
+areaOf e (send tx s a k) g = own-run s (need e k)
+areaOf e (drop s) g = no-area
+areaOf e (arrival rx m) g = no-area
+areaOf e (view rx s) g = no-area
+areaOf e (done s) g = no-area
+areaOf e (register tx n) g = registerArea e n g
+areaOf e (askRoom s n) g = no-area
+areaOf e (askView s n) g = no-area
+
+-- what is written to the transmit and to the receive region lies there
+abbrev pub InArea : End → Area → List (ℕ × ℕ) → List (ℕ × ℕ) → Type 0
+InArea e no-area ts rs = (ts ≡ []) × (rs ≡ [])
+InArea e tx-ring ts rs = InRing (ringOf (e .align) (e .tx)) ts × (rs ≡ [])
+InArea e rx-ring ts rs = (ts ≡ []) × InRing (ringOf (e .align) (e .rx)) rs
+InArea e (own-run s n) ts rs = Within (blockAt (e .tx) s) (blockAt (e .tx) s + n * e .tx .size) ts × (rs ≡ [])
+
+-- f tells the area by what comes with the answer; the slices that are lent have t, r and b bytes
+pub record WritesIn (e : End) (f : Given → Area) (t r b : ℕ) (o : Outcome) : Type 0 where
+  pub area : InArea e (f (o .given)) (o .tx) (o .rx)
+  pub tx : Inside t (o .tx)
+  pub rx : Inside r (o .rx)
+  pub buffer : Inside b (o .buffer)
+
+-- Every write of every call, at any end, lies in the call's area, and inside the slice that it goes to. What is written beside the
+-- regions goes to the buffer; only a pull is lent one.
+abbrev pub WritesInside : Type 0
+WritesInside = (e : End) (c : Call) → WritesIn e (areaOf e c) (length (lent c .tx)) (length (lent c .rx)) (length (lent c .buffer)) (step e c)
