@@ -2,6 +2,7 @@
 use Prim.Native.Nat.{ℕ}
 use mathlib.Core.List.{[]}
 use Rattle.refusal.specs.Numbers.{numberOf}
+use Rattle.icmsg.specs.Rules.{Answer as RingAnswer, refused as ringNo, accepted as ringYes}
 use Rattle.icbmsg.specs.Outcome.{Given, nothing, aLength, aRun, control, delivery, Outcome}
 use Rattle.icbmsg.specs.End.{End}
 use Rattle.link.specs.declared.Answer.{Answer}
@@ -56,6 +57,15 @@ packetNumber (PacketAnswer.Refused x) = numberOf x
 abbrev pub packetGiven : PacketAnswer → Given
 packetGiven (PacketAnswer.Length k) = aLength k
 packetGiven (PacketAnswer.Refused x) = aLength 0
+
+-- of what a ring answered: the length, and the own index where it was own before
+abbrev pub lengthOf : RingAnswer → ℕ
+lengthOf (ringNo n) = 0
+lengthOf (ringYes k i) = k
+
+abbrev pub indexOf : ℕ → RingAnswer → ℕ
+indexOf own (ringNo n) = own
+indexOf own (ringYes k i) = i
 
 abbrev pub ringAnswered : PacketAnswer → End → Outcome
 ringAnswered a e = record { number = packetNumber a; given = packetGiven a; begin = 0; size = 0; tx = []; rx = []; buffer = []; next = e }

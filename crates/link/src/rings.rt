@@ -3,8 +3,9 @@ ghost use mathlib.Core.Path.{_≡_};
 ghost use lib.ListN.{length};
 ghost use Rattle.wire.specs.Bytes.{wrote};
 ghost use Rattle.wire.specs.Reads.{answer};
-ghost use Rattle.icbmsg.specs.Outcome.{withoutWrites};
-ghost use Rattle.link.specs.Answers.{ringOutcomeOf, endOf};
+ghost use Rattle.icmsg.specs.Rules.{answerOf, answerNumber};
+ghost use Rattle.icbmsg.specs.Outcome.{aLength, withoutWrites};
+ghost use Rattle.link.specs.Answers.{packetNumber, packetGiven, lengthOf, indexOf, ringOutcomeOf, endOf};
 ghost use Rattle.icbmsg.specs.Rings.{ringOf, startOf, pushOf, pullRule};
 use crate::End;
 use crate::PacketAnswer;
@@ -25,6 +26,27 @@ fn ring_of(a: u16, g: Region) -> Ring
     }
 }
 
+// What a ring's answer tells the caller: the length. The own index is the end's.
+fn told(a: RingAnswer) -> PacketAnswer
+    ensures number { λ r. ⌜ packetNumber r ≡ answerNumber (answerOf a) ⌝ }
+    ensures given { λ r. ⌜ packetGiven r ≡ aLength (lengthOf (answerOf a)) ⌝ }
+{
+    match a {
+        RingAnswer::Refused(x) => PacketAnswer::Refused(x),
+        RingAnswer::Accepted { length, index: _ } => PacketAnswer::Length(length),
+    }
+}
+
+// The own index afterwards: that of the ring's answer, or as it was where the ring refused.
+fn own_index(a: RingAnswer, own: u32) -> u32
+    ensures { λ r. ⌜ r ≡ indexOf own (answerOf a) ⌝ }
+{
+    match a {
+        RingAnswer::Refused(_) => own,
+        RingAnswer::Accepted { length: _, index } => index,
+    }
+}
+
 impl End {
     // Writes both indexes of the transmit ring as zero, and puts the start content on it.
     pub fn start(mut self, tx: &mut [u8]) -> RingCalled
@@ -38,18 +60,11 @@ impl End {
                 end: self,
             };
         }
-        match icmsg::start(tx, ring_of(self.align, self.tx)) {
-            RingAnswer::Refused(x) => RingCalled {
-                answer: PacketAnswer::Refused(x),
-                end: self,
-            },
-            RingAnswer::Accepted { length, index } => {
-                self.write = index;
-                RingCalled {
-                    answer: PacketAnswer::Length(length),
-                    end: self,
-                }
-            }
+        let answer = icmsg::start(tx, ring_of(self.align, self.tx));
+        self.write = own_index(answer, self.write);
+        RingCalled {
+            answer: told(answer),
+            end: self,
         }
     }
 
@@ -65,18 +80,11 @@ impl End {
                 end: self,
             };
         }
-        match icmsg::push(tx, ring_of(self.align, self.tx), self.write, content) {
-            RingAnswer::Refused(x) => RingCalled {
-                answer: PacketAnswer::Refused(x),
-                end: self,
-            },
-            RingAnswer::Accepted { length, index } => {
-                self.write = index;
-                RingCalled {
-                    answer: PacketAnswer::Length(length),
-                    end: self,
-                }
-            }
+        let answer = icmsg::push(tx, ring_of(self.align, self.tx), self.write, content);
+        self.write = own_index(answer, self.write);
+        RingCalled {
+            answer: told(answer),
+            end: self,
         }
     }
 
@@ -93,18 +101,11 @@ impl End {
                 end: self,
             };
         }
-        match icmsg::pull(rx, ring_of(self.align, self.rx), self.read, buffer) {
-            RingAnswer::Refused(x) => RingCalled {
-                answer: PacketAnswer::Refused(x),
-                end: self,
-            },
-            RingAnswer::Accepted { length, index } => {
-                self.read = index;
-                RingCalled {
-                    answer: PacketAnswer::Length(length),
-                    end: self,
-                }
-            }
+        let answer = icmsg::pull(rx, ring_of(self.align, self.rx), self.read, buffer);
+        self.read = own_index(answer, self.read);
+        RingCalled {
+            answer: told(answer),
+            end: self,
         }
     }
 }

@@ -11,8 +11,9 @@ use Rattle.icmsg.specs.declared.Ring.{Ring}
 use Rattle.icmsg.proofs.Indexes.{refusals}
 use Rattle.icbmsg.specs.Ends.{whole, changed}
 use Rattle.icbmsg.specs.Rings.{ringOf}
+use Rattle.icbmsg.proofs.RulesRead.{pull-answer}
 use Rattle.link.proofs.OpenSays.{not-whole, is-whole}
-use Rattle.link.proofs.RingCalls.{says-no, says-yes, pull-6, pull-quiet, pull-refused, pull-accepted}
+use Rattle.link.proofs.RingCalls.{pull-6, pull-quiet, pull-told}
 use borrow.Author.Needs.{needs}
 use Rattle.link.proofs.End.pull.Statement.{statement}
 use Rattle.link.proofs.End.pull.Tie as tie
@@ -37,11 +38,11 @@ ring-of-requires c κs = search needs
 pull-requires : tie.Need-pull-requires
 pull-requires c κs = search needs
 
-enum-known-x : tie.Need-enum-known-x
-enum-known-x c = search needs
+own-index-requires : tie.Need-own-index-requires
+own-index-requires c κs = search needs
 
-enum-known-length : tie.Need-enum-known-length
-enum-known-length c = search needs
+told-requires : tie.Need-told-requires
+told-requires c κs = search needs
 
 same-length : tie.Need-same-length
 same-length c = search needs
@@ -50,31 +51,18 @@ same-length-2 : tie.Need-same-length-2
 same-length-2 c = search needs
 
 returns-2 : tie.Need-returns-2
-returns-2 c =
-    let a = c .before .before .before .before .before .before .before .before .before .before .before .before .before .before .before .before .args in
-    let b = length (now (a .buffer)) in
-    let r = ap (λ (g : Ring). answer (ringPull (length (now (a .rx))) g (a .self .read) b) (now (a .rx))) (c .before .before .before .before .before .before .before .before .before .ring-of .ensures) in
-    let o : RingOutcome = answer (ringPull (length (now (a .rx))) (ringOf (a .self .align) (a .self .rx)) (a .self .read) b) (now (a .rx)) in
-    let h = says-no o _ (c .before .before .before .before .before .before .before .pull .ensures .0 ∙ ap (λ (x : RingOutcome). x .answer) r) _ (c .before .x .given .1) in
-    let w = pull-refused (endOf (a .self)) (now (a .rx)) b (lent (c .before .before .before .before .before .before .before .before .before .before .before)) _ (refusals .pull (length (now (a .rx))) (ringOf (a .self .align) (a .self .rx)) (a .self .read) b (now (a .rx)) _ h .1) in
-    (w .0, (c .before .before .before .before .before .before .before .pull .ensures .1 .0 ∙ ap (λ (x : RingOutcome). wrote (now (a .rx)) (x .region)) r ∙ ap (wrote (now (a .rx))) (w .1), c .before .before .before .before .before .before .before .pull .ensures .1 .1 ∙ ap (λ (x : RingOutcome). wrote (now (a .buffer)) (x .buffer)) r ∙ ap (wrote (now (a .buffer))) (w .2)))
-
-same-length-3 : tie.Need-same-length-3
-same-length-3 c = search needs
-
-same-length-4 : tie.Need-same-length-4
-same-length-4 c = search needs
-
-returns-3 : tie.Need-returns-3
 unfolding changed
-returns-3 c =
-    let a = c .before .before .before .before .before .before .before .before .before .before .before .before .before .before .before .before .args in
+returns-2 c =
+    let a = c .before .before .before .before .before .before .before .before .before .before .before .before .before .before .before .args in
     let b = length (now (a .buffer)) in
-    let r = ap (λ (g : Ring). answer (ringPull (length (now (a .rx))) g (a .self .read) b) (now (a .rx))) (c .before .before .before .before .before .before .before .before .before .ring-of .ensures) in
+    let e = endOf (a .self) in
+    let r = ap (λ (g : Ring). answer (ringPull (length (now (a .rx))) g (a .self .read) b) (now (a .rx))) (c .before .before .before .before .before .before .before .before .ring-of .ensures) in
     let o : RingOutcome = answer (ringPull (length (now (a .rx))) (ringOf (a .self .align) (a .self .rx)) (a .self .read) b) (now (a .rx)) in
-    let h = says-yes o _ (c .before .before .before .before .before .before .before .pull .ensures .0 ∙ ap (λ (x : RingOutcome). x .answer) r) _ _ (c .before .length .given .1) in
-    let w = pull-accepted (endOf (a .self)) (now (a .rx)) b (lent (c .before .before .before .before .before .before .before .before .before .before .before)) _ _ h in
-    (w .0, (c .before .before .before .before .before .before .before .pull .ensures .1 .0 ∙ ap (λ (x : RingOutcome). wrote (now (a .rx)) (x .region)) r ∙ ap (wrote (now (a .rx))) (w .1), c .before .before .before .before .before .before .before .pull .ensures .1 .1 ∙ ap (λ (x : RingOutcome). wrote (now (a .buffer)) (x .buffer)) r ∙ ap (wrote (now (a .buffer))) (w .2)))
+    let p = c .before .before .before .before .before .before .pull .ensures in
+    let w = pull-told o (λ n h. refusals .pull (length (now (a .rx))) (ringOf (a .self .align) (a .self .rx)) (a .self .read) b (now (a .rx)) n h .1) _
+    (p .0 ∙ ap (λ (x : RingOutcome). x .answer) r) (c .told .result) (c .told .ensures .0) (c .told .ensures .1) _ e _ (lent (c .before .before .before .before .before .before .before .before .before .before)) (c .before .own-index .ensures) in
+    rw (pull-answer e (length (now (a .rx))) b (now (a .rx)))
+    (w .0, (p .1 .0 ∙ ap (λ (x : RingOutcome). wrote (now (a .rx)) (x .region)) r ∙ ap (wrote (now (a .rx))) (w .1), p .1 .1 ∙ ap (λ (x : RingOutcome). wrote (now (a .buffer)) (x .buffer)) r ∙ ap (wrote (now (a .buffer))) (w .2)))
 
 pub pull-spec : {M : Type 1} → statement M
 pull-spec =
@@ -85,11 +73,8 @@ pull-spec =
     returns
     ring-of-requires
     pull-requires
-    enum-known-x
-    enum-known-length
+    own-index-requires
+    told-requires
     same-length
     same-length-2
-    returns-2
-    same-length-3
-    same-length-4
-    returns-3)
+    returns-2)

@@ -11,7 +11,7 @@ use Rattle.icmsg.proofs.Indexes.{refusals}
 use Rattle.icbmsg.specs.Ends.{whole, changed}
 use Rattle.icbmsg.specs.Rings.{ringOf, pushed, startOf}
 use Rattle.link.proofs.OpenSays.{not-whole, is-whole}
-use Rattle.link.proofs.RingCalls.{ring-6, says-no, says-yes, push-refused, push-accepted}
+use Rattle.link.proofs.RingCalls.{ring-6, push-told}
 use borrow.Author.Needs.{needs}
 use Rattle.link.proofs.End.start.Statement.{statement}
 use Rattle.link.proofs.End.start.Tie as tie
@@ -37,37 +37,25 @@ ring-of-requires c κs = search needs
 start-requires : tie.Need-start-requires
 start-requires c κs = search needs
 
-enum-known-x : tie.Need-enum-known-x
-enum-known-x c = search needs
+own-index-requires : tie.Need-own-index-requires
+own-index-requires c κs = search needs
 
-enum-known-length : tie.Need-enum-known-length
-enum-known-length c = search needs
+told-requires : tie.Need-told-requires
+told-requires c κs = search needs
 
 same-length : tie.Need-same-length
 same-length c = search needs
 
 returns-2 : tie.Need-returns-2
-unfolding startOf
-returns-2 c =
-    let a = c .before .before .before .before .before .before .before .before .before .before .before .before .args in
-    let r = ap (λ (g : Ring). ringStart (length (now (a .tx))) g) (c .before .before .before .before .before .before .ring-of .ensures) in
-    let o : RingOutcome = ringStart (length (now (a .tx))) (ringOf (a .self .align) (a .self .tx)) in
-    let h = says-no o _ (c .before .before .before .before .before .start .ensures .0 ∙ ap (λ (x : RingOutcome). x .answer) r) _ (c .before .x .given .1) in
-    let w = push-refused (endOf (a .self)) _ o (lent (c .before .before .before .before .before .before .before .before)) _ (refusals .start (length (now (a .tx))) (ringOf (a .self .align) (a .self .tx)) _ h .1) in
-    (w .0, c .before .before .before .before .before .start .ensures .1 ∙ ap (λ (x : RingOutcome). wrote (now (a .tx)) (x .region)) r ∙ ap (wrote (now (a .tx))) (w .1))
-
-same-length-2 : tie.Need-same-length-2
-same-length-2 c = search needs
-
-returns-3 : tie.Need-returns-3
 unfolding startOf changed
-returns-3 c =
-    let a = c .before .before .before .before .before .before .before .before .before .before .before .before .args in
-    let r = ap (λ (g : Ring). ringStart (length (now (a .tx))) g) (c .before .before .before .before .before .before .ring-of .ensures) in
+returns-2 c =
+    let a = c .before .before .before .before .before .before .before .before .before .before .before .args in
+    let r = ap (λ (g : Ring). ringStart (length (now (a .tx))) g) (c .before .before .before .before .before .ring-of .ensures) in
     let o : RingOutcome = ringStart (length (now (a .tx))) (ringOf (a .self .align) (a .self .tx)) in
-    let h = says-yes o _ (c .before .before .before .before .before .start .ensures .0 ∙ ap (λ (x : RingOutcome). x .answer) r) _ _ (c .before .length .given .1) in
-    let w = push-accepted (endOf (a .self)) _ o (lent (c .before .before .before .before .before .before .before .before)) _ _ h in
-    (w .0, c .before .before .before .before .before .start .ensures .1 ∙ ap (λ (x : RingOutcome). wrote (now (a .tx)) (x .region)) r ∙ ap (wrote (now (a .tx))) (w .1))
+    let p = c .before .before .before .before .start .ensures in
+    let w = push-told o (λ n h. refusals .start (length (now (a .tx))) (ringOf (a .self .align) (a .self .tx)) n h .1) _
+    (p .0 ∙ ap (λ (x : RingOutcome). x .answer) r) (c .told .result) (c .told .ensures .0) (c .told .ensures .1) _ (endOf (a .self)) _ (lent (c .before .before .before .before .before .before .before)) (c .before .own-index .ensures) in
+    (w .0, p .1 ∙ ap (λ (x : RingOutcome). wrote (now (a .tx)) (x .region)) r ∙ ap (wrote (now (a .tx))) (w .1))
 
 pub start-spec : {M : Type 1} → statement M
 start-spec =
@@ -78,9 +66,7 @@ start-spec =
     returns
     ring-of-requires
     start-requires
-    enum-known-x
-    enum-known-length
+    own-index-requires
+    told-requires
     same-length
-    returns-2
-    same-length-2
-    returns-3)
+    returns-2)
