@@ -56,7 +56,7 @@ target/bench/%.o: bench/%.c bench/plain_end.h bench/rounds.h
 	@mkdir -p $(@D)
 	gcc $(CFLAGS) -Ibench -c -o $@ $<
 
-target/bench/calls: target/bench/calls.o target/bench/plain_end.o $(rounds)
+target/bench/calls: target/bench/calls.o target/bench/plain_end.o target/bench/plain_open.o $(rounds)
 	gcc $(CFLAGS) -o $@ $^
 
 second: $(panel) $(script)

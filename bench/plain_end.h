@@ -1,5 +1,5 @@
 /* One end of the link in plain C, its state behind a pointer: what the proved end is measured against. Calls give a refusal's number,
- * or 0. The ring has its own file, plain_ring.c. */
+ * or 0. Opening has its own file, plain_open.c, and so has the ring, plain_ring.c. */
 #ifndef PLAIN_END_H
 #define PLAIN_END_H
 

@@ -36,48 +36,76 @@ fn hostile_call(
             place.ring(region).data.copy_from_slice(bytes);
         }
     }
-    let own_index = if random.one_in(16) {
-        place.bad_index(random)
-    } else {
-        place.index(random)
-    };
-    let partner_index = hostile_index(random, place, own_index);
-    // Nobody reads the own index in memory, so it may mislead.
-    let stale_index = hostile_index(random, place, own_index);
+    let indexes = Indexes::any(random, place);
     let call = Call {
         request: place.request,
-        own_index,
+        own_index: indexes.own,
         answer_length: answer_length(random),
         stated: None,
     };
-    // Bytes from the own index on to the partner's, for lengths near a limit;
-    // of bad indexes any number will do.
-    let ahead = (i64::from(partner_index) - i64::from(own_index))
-        .rem_euclid(place.data_length as i64) as usize;
-
+    let ahead = indexes.ahead(place);
     if random.one_in(2) {
-        for region in region.lend() {
-            let ring = place.ring(region);
-            *ring.read_index = partner_index.to_le_bytes();
-            *ring.write_index = stale_index.to_le_bytes();
-        }
+        indexes.before_push(place, region);
         let room = if ahead == 0 { place.data_length } else { ahead } - 1;
         let length = content_length(random, room);
         calls.push(&call, region, pool.slice(random, length));
     } else {
         let length = hostile_length(random, ahead);
+        indexes.before_pull(place, region, length);
+        let length = buffer_length(random, place.data_length);
+        let mut buffer = Twin::new(pool.slice(random, length));
+        calls.pull(&call, region, &mut buffer);
+    }
+}
+
+/// The caller's index, and the two in memory.
+struct Indexes {
+    own: u32,
+    partner: u32,
+    /// Nobody reads the own index in memory, so it may mislead.
+    stale: u32,
+}
+
+impl Indexes {
+    fn any(random: &mut Random, place: Place) -> Self {
+        let own = if random.one_in(16) {
+            place.bad_index(random)
+        } else {
+            place.index(random)
+        };
+        Indexes {
+            own,
+            partner: hostile_index(random, place, own),
+            stale: hostile_index(random, place, own),
+        }
+    }
+
+    /// Bytes from the own index on to the partner's, for lengths near a limit;
+    /// of bad indexes any number will do.
+    fn ahead(&self, place: Place) -> usize {
+        let ahead = i64::from(self.partner) - i64::from(self.own);
+        ahead.rem_euclid(place.data_length as i64) as usize
+    }
+
+    fn before_push(&self, place: Place, region: &mut Twin<u8>) {
         for region in region.lend() {
             let ring = place.ring(region);
-            *ring.read_index = stale_index.to_le_bytes();
-            *ring.write_index = partner_index.to_le_bytes();
-            let packet = ring.data.iter_mut().skip(own_index as usize);
+            *ring.read_index = self.partner.to_le_bytes();
+            *ring.write_index = self.stale.to_le_bytes();
+        }
+    }
+
+    /// At the own index there is a packet that claims this length.
+    fn before_pull(&self, place: Place, region: &mut Twin<u8>, length: u16) {
+        for region in region.lend() {
+            let ring = place.ring(region);
+            *ring.read_index = self.stale.to_le_bytes();
+            *ring.write_index = self.partner.to_le_bytes();
+            let packet = ring.data.iter_mut().skip(self.own as usize);
             for (place, byte) in packet.zip(length.to_be_bytes()) {
                 *place = byte;
             }
         }
-        let length = buffer_length(random, place.data_length);
-        let mut buffer = Twin::new(pool.slice(random, length));
-        calls.pull(&call, region, &mut buffer);
     }
 }
 

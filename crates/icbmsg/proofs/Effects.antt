@@ -31,8 +31,8 @@ use Rattle.icbmsg.specs.Calls.{Call, start, push, pull, reserve, room, s
 use Rattle.icbmsg.specs.Reading.{sizeIn, contentAt}
 use Rattle.blocks.specs.WellFormed.{leading, blockKind, Live}
 use Rattle.icbmsg.specs.WellFormed.{sentRun, bindingOf}
-use Rattle.icbmsg.specs.Ledger.{RunChange, no-change, sent-takes, sent-trims, sent-frees, held-takes, held-frees, reserveChange, deliveryChange, storedChange, registerChange, arrivalChange, runChange}
-use Rattle.icbmsg.specs.Theorems.{Part, no-part, length-part, room-part, view-part, refusedGiven, partOf}
+use Rattle.icbmsg.specs.Ledger.{transmit, receive, RunChange, no-change, takes, trims, frees, reserveChange, deliveryChange, storedChange, registerChange, arrivalChange, runChange}
+use Rattle.icbmsg.specs.Theorems.{Part, no-part, length-part, message-part, refusedGiven, partOf}
 use Rattle.icbmsg.specs.Places.{InMessage, PartIn}
 use Rattle.blocks.proofs.LeastBlocks.{blocks-hold, blocks-least, blocks-one}
 use Rattle.blocks.proofs.Search.{first-at, lowest-at}
@@ -52,20 +52,20 @@ use Rattle.icbmsg.specs.End.{End}
 
 -- a table: free blocks are taken, a live run is freed, or trimmed
 pub data SentChange (c : ℕ) (good : Entry → Bool) (t : List Entry) : RunChange → List Entry → Type 0 where
-  takes : (u : Use) (s n a k : ℕ) → blockKind u ≡ leading → good (runEntry u n a k) ≡ true → allFree t s n ≡ true → 1 ≤ n → s + n ≤ c → SentChange c good t (sent-takes s n) (taken t u s n a k)
-  frees : (s : ℕ) → Live t s → SentChange c good t (sent-frees s) (freed t s (entry t s .count))
-  trims : (u : Use) (s n a k : ℕ) → Live t s → blockKind u ≡ leading → good (runEntry u n a k) ≡ true → 1 ≤ n → n ≤ entry t s .count →
-      SentChange c good t (sent-trims s n) (taken (freed t s (entry t s .count)) u s n a k)
+  run-taken : (u : Use) (s n a k : ℕ) → blockKind u ≡ leading → good (runEntry u n a k) ≡ true → allFree t s n ≡ true → 1 ≤ n → s + n ≤ c → SentChange c good t (takes transmit s n) (taken t u s n a k)
+  run-freed : (s : ℕ) → Live t s → SentChange c good t (frees transmit s) (freed t s (entry t s .count))
+  run-trimmed : (u : Use) (s n a k : ℕ) → Live t s → blockKind u ≡ leading → good (runEntry u n a k) ≡ true → 1 ≤ n → n ≤ entry t s .count →
+      SentChange c good t (trims transmit s n) (taken (freed t s (entry t s .count)) u s n a k)
 
 -- the received table with the stored bindings
 pub data HeldChange (g : Region) (t : List Entry) (bs : List Binding) : RunChange → List Entry → List Binding → Type 0 where
   as-was : HeldChange g t bs no-change t bs
-  receives : (s n a k : ℕ) → leb (k + 4) (n * g .size) ≡ true → allFree t s n ≡ true → 1 ≤ n → s + n ≤ g .count → HeldChange g t bs (held-takes s n) (taken t ReceivedData s n a k) bs
-  finishes : (s : ℕ) → entry t s .usage ≡ ReceivedData → HeldChange g t bs (held-frees s) (freed t s (entry t s .count)) bs
+  receives : (s n a k : ℕ) → leb (k + 4) (n * g .size) ≡ true → allFree t s n ≡ true → 1 ≤ n → s + n ≤ g .count → HeldChange g t bs (takes receive s n) (taken t ReceivedData s n a k) bs
+  finishes : (s : ℕ) → entry t s .usage ≡ ReceivedData → HeldChange g t bs (frees receive s) (freed t s (entry t s .count)) bs
   stores : (s n a j : ℕ) (name : List ℕ) → allFree t s n ≡ true → 1 ≤ n → s + n ≤ g .count → j < 8 → bindingOf bs j .stored ≡ false →
-      HeldChange g t bs (held-takes s n) (taken t StoredBinding s n a 0) (set bs j (record { stored = true; address = a; start = s; count = n; name = name }))
+      HeldChange g t bs (takes receive s n) (taken t StoredBinding s n a 0) (set bs j (record { stored = true; address = a; start = s; count = n; name = name }))
   forgets : (j : ℕ) → j < 8 → bindingOf bs j .stored ≡ true →
-      HeldChange g t bs (held-frees (bindingOf bs j .start)) (freed t (bindingOf bs j .start) (bindingOf bs j .count)) (set bs j noBinding)
+      HeldChange g t bs (frees receive (bindingOf bs j .start)) (freed t (bindingOf bs j .start) (bindingOf bs j .count)) (set bs j noBinding)
 
 -- an end
 pub data EndChange (e : End) : RunChange → End → Type 0 where
@@ -171,11 +171,11 @@ size-pos e o = let z = sound e o in omega (arith, leb-true)
 
 -- a run of as many blocks as K needs
 take-run : (e : End) (u : Use) (a k m s : ℕ) → isOpen e ≡ true → blockKind u ≡ leading → sentRun (e .tx) (runEntry u (blocksFor (e .tx .size) k) a m) ≡ true →
-    freeRun (e .tx .count) (e .sent) (blocksFor (e .tx .size) k) ≡ foundAt s → SentChange (e .tx .count) (sentRun (e .tx)) (e .sent) (sent-takes s (blocksFor (e .tx .size) k)) (taken (e .sent) u s (blocksFor (e .tx .size) k) a m)
+    freeRun (e .tx .count) (e .sent) (blocksFor (e .tx .size) k) ≡ foundAt s → SentChange (e .tx .count) (sentRun (e .tx)) (e .sent) (takes transmit s (blocksFor (e .tx .size) k)) (taken (e .sent) u s (blocksFor (e .tx .size) k) a m)
 unfolding freeRun
 take-run e u a k m s o su g q =
     let w = lowest-at (e .tx .count) (e .sent) 0 (blocksFor (e .tx .size) k) (e .tx .count) s q in
-    takes u s (blocksFor (e .tx .size) k) a m su g (w .free-there) (blocks-one (e .tx .size) k (size-pos e o .0)) (w .room)
+    run-taken u s (blocksFor (e .tx .size) k) a m su g (w .free-there) (blocks-one (e .tx .size) k (size-pos e o .0)) (w .room)
 
 reserve-effect : (e : End) (k : ℕ) → Effect reserveChange e no-part (reserveOf e k)
 unfolding reserveOf
@@ -185,7 +185,7 @@ reserve-effect e k =
     found (freeRun (e .tx .count) (e .sent) (blocksFor (e .tx .size) k)) _ (refl, refl) λ s q.
     accepts refl o (refl, refl) (sends (e .endpoints) (take-run e Reserved 0 k 0 s o refl refl q) refl)
 
-room-effect : (e : End) (n s : ℕ) → Effect (λ _. no-change) e (room-part s) (roomOf e n s)
+room-effect : (e : End) (n s : ℕ) → Effect (λ _. no-change) e (message-part transmit s) (roomOf e n s)
 unfolding roomOf
 room-effect e n s =
     checked (whole e (e .tx) n) _ (refl, refl) λ w.
@@ -197,7 +197,7 @@ room-effect e n s =
     let l : 4 ≤ x = omega (arith, mul-le-mul (r .one) (leb-true 4 (e .tx .size) (z .1 .1 .1 .1 .1 .1 .1 .1 .1 .1 .1 .1 .0))) in
     accepts refl o (in-message e (e .tx) (e .sent) s (x - 4) (live r refl) (r .ends) (omega arith)) stays
 
-send-effect : (e : End) (n s a k : ℕ) → Effect (λ _. sent-trims s (blocksFor (e .tx .size) k)) e no-part (sendOf e n s a k)
+send-effect : (e : End) (n s a k : ℕ) → Effect (λ _. trims transmit s (blocksFor (e .tx .size) k)) e no-part (sendOf e n s a k)
 unfolding sendOf
 send-effect e n s a k =
     checked (whole e (e .tx) n) _ (refl, refl) λ w.
@@ -209,18 +209,18 @@ send-effect e n s a k =
     let p = size-pos e o .0 in
     accepts refl o (refl, refl)
     (sends (e .endpoints)
-    (trims SentData s (blocksFor (e .tx .size) k) a k (live r refl) refl (le-leb (k + 4) (blocksFor (e .tx .size) k * e .tx .size) (blocks-hold (e .tx .size) k p)) (blocks-one (e .tx .size) k p)
+    (run-trimmed SentData s (blocksFor (e .tx .size) k) a k (live r refl) refl (le-leb (k + 4) (blocksFor (e .tx .size) k * e .tx .size) (blocks-hold (e .tx .size) k p)) (blocks-one (e .tx .size) k p)
     (blocks-least (e .tx .size) k (entry (e .sent) s .count) (leb-true (k + 4) (entry (e .sent) s .count * e .tx .size) f) p))
     refl)
 
-drop-effect : (e : End) (s : ℕ) → Effect (λ _. sent-frees s) e no-part (dropOf e s)
+drop-effect : (e : End) (s : ℕ) → Effect (λ _. frees transmit s) e no-part (dropOf e s)
 unfolding dropOf
 drop-effect e s =
     checked (isOpen e) _ (refl, refl) λ o.
     checked (starts Reserved (e .tx .count) (e .sent) s) _ (refl, refl) λ h.
-    accepts refl o (refl, refl) (sends (e .endpoints) (frees s (live (run-of Reserved (e .tx .count) (e .sent) s h) refl)) refl)
+    accepts refl o (refl, refl) (sends (e .endpoints) (run-freed s (live (run-of Reserved (e .tx .count) (e .sent) s h) refl)) refl)
 
-view-effect : (e : End) (n s : ℕ) → Effect (λ _. no-change) e (view-part s) (viewOf e n s)
+view-effect : (e : End) (n s : ℕ) → Effect (λ _. no-change) e (message-part receive s) (viewOf e n s)
 unfolding viewOf
 view-effect e n s =
     checked (whole e (e .rx) n) _ (refl, refl) λ w.
@@ -228,7 +228,7 @@ view-effect e n s =
     let d = data-run (e .rx .count) (e .rx .size) (e .held) s h in
     accepts refl (whole-open e (e .rx) n w) (in-message e (e .rx) (e .held) s (entry (e .held) s .length) (live (d .0) refl) (d .0 .ends) (d .1)) stays
 
-done-effect : (e : End) (s : ℕ) → Effect (λ _. held-frees s) e no-part (doneOf e s)
+done-effect : (e : End) (s : ℕ) → Effect (λ _. frees receive s) e no-part (doneOf e s)
 unfolding doneOf
 done-effect e s =
     checked (isOpen e) _ (refl, refl) λ o.
@@ -293,18 +293,18 @@ data-effect e a b r o =
     accepts refl o (refl, refl)
     (keeps (e .endpoints) (receives b (blocksFor (g .size) k) a k (le-leb (k + 4) (blocksFor (g .size) k * g .size) x) u (blocks-one (g .size) k p) m) refl))
 
-release-effect : (e : End) (b : ℕ) → isOpen e ≡ true → Effect (λ _. sent-frees b) e no-part (releaseOf e b)
+release-effect : (e : End) (b : ℕ) → isOpen e ≡ true → Effect (λ _. frees transmit b) e no-part (releaseOf e b)
 unfolding releaseOf
 release-effect e b o =
     checked (ltb b (e .tx .count)) _ (refl, refl) λ _.
     checked (starts SentData (e .tx .count) (e .sent) b) _ (refl, refl) λ h.
-    accepts refl o (refl, refl) (sends (e .endpoints) (frees b (live (run-of SentData (e .tx .count) (e .sent) b h) refl)) refl)
+    accepts refl o (refl, refl) (sends (e .endpoints) (run-freed b (live (run-of SentData (e .tx .count) (e .sent) b h) refl)) refl)
 
 boundNow-length : (ps : List Endpoint) (a : ℕ) (q : Search) → length (boundNow ps a q) ≡ length ps
 boundNow-length ps a nowhere = refl
 boundNow-length ps a (foundAt i) = length-set ps i _
 
-bindingReleased-effect : (e : End) (a b : ℕ) → isOpen e ≡ true → Effect (λ _. sent-frees b) e no-part (releasedBoundOf e a b)
+bindingReleased-effect : (e : End) (a b : ℕ) → isOpen e ≡ true → Effect (λ _. frees transmit b) e no-part (releasedBoundOf e a b)
 unfolding releasedBoundOf
 bindingReleased-effect e a b o =
     checked (leb a 0xFD) _ (refl, refl) λ _.
@@ -312,7 +312,7 @@ bindingReleased-effect e a b o =
     checked (starts SentBinding (e .tx .count) (e .sent) b && eqb (entry (e .sent) b .address) a) _ (refl, refl) λ h.
     let r = run-of SentBinding (e .tx .count) (e .sent) b (both (starts SentBinding (e .tx .count) (e .sent) b) _ h .0) in
     let q : Search = endpointAt (waitingAt a) (e .endpoints) in
-    accepts refl o (refl, refl) (sends (boundNow (e .endpoints) a q) (frees b (live r refl)) (boundNow-length (e .endpoints) a q))
+    accepts refl o (refl, refl) (sends (boundNow (e .endpoints) a q) (run-freed b (live r refl)) (boundNow-length (e .endpoints) a q))
 
 boundTo-effect : (e : End) (a b n : ℕ) (its : List ℕ) (q : Search) → isOpen e ≡ true → allFree (e .held) b n ≡ true → 1 ≤ n → b + n ≤ e .rx .count →
     Effect (storedChange b n) e no-part (boundTo e a b n its q)

@@ -20,12 +20,12 @@ use Rattle.icbmsg.specs.Ends.{isOpen, changed}
 use Rattle.icbmsg.specs.Opening.{opening}
 use Rattle.icbmsg.specs.declared.Opening.{Opening}
 use Rattle.icbmsg.specs.Calls.{Call, run, step, left}
-use Rattle.icbmsg.specs.Ledger.{RunChange, Runs, Ledger, noted, enter, entered, noRuns, ledger, runBlocks, runAt, Accounts, ByHistory}
+use Rattle.icbmsg.specs.Ledger.{Side, transmit, receive, table, RunChange, Runs, Ledger, noted, enter, entered, noRuns, ledger, runBlocks, runAt, Accounts, ByHistory}
 use Rattle.icbmsg.specs.WellFormed.{heldRun, bindingOf, Stored, Separate}
 use Rattle.icbmsg.specs.Theorems.{Part, Reached, opened, called}
 use Rattle.icbmsg.specs.declared.Region.{Region}
 use Rattle.icbmsg.specs.End.{End}
-use Rattle.icbmsg.proofs.Effects.{SentChange, takes, frees, trims, HeldChange, as-was, receives, finishes, stores, forgets, EndChange, stays, writes, reads, sends, keeps, Effect, refuses, accepts, sound, effect}
+use Rattle.icbmsg.proofs.Effects.{SentChange, run-taken, run-freed, run-trimmed, HeldChange, as-was, receives, finishes, stores, forgets, EndChange, stays, writes, reads, sends, keeps, Effect, refuses, accepts, sound, effect}
 use Rattle.icbmsg.proofs.Separate.{Opens, opens, shuts, how-opened, separate, left-reached}
 use Rattle.icbmsg.proofs.RunsStay.{not-free}
 use Rattle.icbmsg.proofs.Refusals.{numbers-stay}
@@ -90,46 +90,44 @@ trimmed-noted l h w b u s n a k v su o m x =
 
 -- ---- an end after a call
 
-record Matches (l : Ledger) (e : End) : Type 0 where
-  sent : Same (l .sent) (e .sent)
-  held : Same (l .held) (e .held)
+-- the ledger's runs are those of both tables
+abbrev Matches : Ledger → End → Type 0
+Matches l e = (d : Side) → Same (l d) (table d e)
 
-sent-matches : {c : ℕ} {good : Entry → Bool} {t t′ : List Entry} {d : RunChange} (l : Ledger) → WellFormed c good t → c ≤ 256 → SentChange c good t d t′ → Same (l .sent) t →
-    (x : ℕ) → (enter d l .sent x ≡ runAt t′ x) × (enter d l .held x ≡ l .held x)
-sent-matches {t = t} l w b (takes u s n a k su g f o m) h x = (taken-noted (l .sent) h (taken-view w b u s n a k o m) (λ i p q. free-at t s n i f p q) su refl o x, refl)
-sent-matches l w b (frees s v) h x = (freed-noted (l .sent) h w b s v x, refl)
-sent-matches l w b (trims u s n a k v su g o m) h x = (trimmed-noted (l .sent) h w b u s n a k v su o m x, refl)
+sent-matches : {c : ℕ} {good : Entry → Bool} {t t′ : List Entry} {x : RunChange} (l : Ledger) → WellFormed c good t → c ≤ 256 → SentChange c good t x t′ → Same (l transmit) t →
+    (s : ℕ) → (enter x l transmit s ≡ runAt t′ s) × (enter x l receive s ≡ l receive s)
+sent-matches {t = t} l w b (run-taken u s n a k su g f o m) h x = (taken-noted (l transmit) h (taken-view w b u s n a k o m) (λ i p q. free-at t s n i f p q) su refl o x, refl)
+sent-matches l w b (run-freed s v) h x = (freed-noted (l transmit) h w b s v x, refl)
+sent-matches l w b (run-trimmed u s n a k v su g o m) h x = (trimmed-noted (l transmit) h w b u s n a k v su o m x, refl)
 
-held-matches : {g : Region} {t t′ : List Entry} {bs bs′ : List Binding} {d : RunChange} (l : Ledger) → WellFormed (g .count) (heldRun g) t → Stored t bs → g .count ≤ 256 → HeldChange g t bs d t′ bs′ →
-    Same (l .held) t → (x : ℕ) → (enter d l .sent x ≡ l .sent x) × (enter d l .held x ≡ runAt t′ x)
-held-matches l w st b as-was h x = (refl, h x)
-held-matches {t = t} l w st b (receives s n a k y f o m) h x = (refl, taken-noted (l .held) h (taken-view w b ReceivedData s n a k o m) (λ i p q. free-at t s n i f p q) refl refl o x)
-held-matches l w st b (finishes s y) h x = (refl, freed-noted (l .held) h w b s (rw y) x)
-held-matches {t = t} l w st b (stores s n a j name f o m lj z) h x = (refl, taken-noted (l .held) h (taken-view w b StoredBinding s n a 0 o m) (λ i p q. free-at t s n i f p q) refl refl o x)
+held-matches : {g : Region} {t t′ : List Entry} {bs bs′ : List Binding} {x : RunChange} (l : Ledger) → WellFormed (g .count) (heldRun g) t → Stored t bs → g .count ≤ 256 → HeldChange g t bs x t′ bs′ →
+    Same (l receive) t → (s : ℕ) → (enter x l receive s ≡ runAt t′ s) × (enter x l transmit s ≡ l transmit s)
+held-matches l w st b as-was h x = (h x, refl)
+held-matches {t = t} l w st b (receives s n a k y f o m) h x = (taken-noted (l receive) h (taken-view w b ReceivedData s n a k o m) (λ i p q. free-at t s n i f p q) refl refl o x, refl)
+held-matches l w st b (finishes s y) h x = (freed-noted (l receive) h w b s (rw y) x, refl)
+held-matches {t = t} l w st b (stores s n a j name f o m lj z) h x = (taken-noted (l receive) h (taken-view w b StoredBinding s n a 0 o m) (λ i p q. free-at t s n i f p q) refl refl o x, refl)
 held-matches {bs = bs} l w st b (forgets j lj k) h x =
     let r = st .runs j k in
-    (refl, rw (← (r .1)) (freed-noted (l .held) h w b (bindingOf bs j .start) (rw (r .0)) x))
+    (rw (← (r .1)) (freed-noted (l receive) h w b (bindingOf bs j .start) (rw (r .0)) x), refl)
 
-matches : {e e′ : End} {d : RunChange} (l : Ledger) → isOpen e ≡ true → Separate e → EndChange e d e′ → Matches l e → Matches (enter d l) e′
+matches : {e e′ : End} {x : RunChange} (l : Ledger) → isOpen e ≡ true → Separate e → EndChange e x e′ → Matches l e → Matches (enter x l) e′
 unfolding changed
-matches l o w stays h = h
-matches l o w (writes x q) h = record { sent = h .sent; held = h .held }
-matches l o w (reads x q) h = record { sent = h .sent; held = h .held }
-matches {e} l o w (sends ps c q) h =
-    let z = sound e o in
-    let b : e .tx .count ≤ 256 = omega (arith, leb-true) in
-    record { sent = λ x. sent-matches l (w .sent) b c (h .sent) x .0; held = λ x. sent-matches l (w .sent) b c (h .sent) x .1 ∙ h .held x }
-matches {e} l o w (keeps ps c q) h =
-    let z = sound e o in
-    let b : e .rx .count ≤ 256 = omega (arith, leb-true) in
-    record { sent = λ x. held-matches l (w .held) (w .stored) b c (h .held) x .0 ∙ h .sent x; held = λ x. held-matches l (w .held) (w .stored) b c (h .held) x .1 }
+matches l o w stays h d = h d
+matches l o w (writes x q) h transmit = h transmit
+matches l o w (writes x q) h receive = h receive
+matches l o w (reads x q) h transmit = h transmit
+matches l o w (reads x q) h receive = h receive
+matches {e} l o w (sends ps c q) h transmit = let z = sound e o in λ s. sent-matches l (w .sent) (omega (arith, leb-true)) c (h transmit) s .0
+matches {e} l o w (sends ps c q) h receive = let z = sound e o in λ s. sent-matches l (w .sent) (omega (arith, leb-true)) c (h transmit) s .1 ∙ h receive s
+matches {e} l o w (keeps ps c q) h transmit = let z = sound e o in λ s. held-matches l (w .held) (w .stored) (omega (arith, leb-true)) c (h receive) s .1 ∙ h transmit s
+matches {e} l o w (keeps ps c q) h receive = let z = sound e o in λ s. held-matches l (w .held) (w .stored) (omega (arith, leb-true)) c (h receive) s .0
 
 step-matches : (e : End) (c : Call) (l : Ledger) → Separate e → Matches l e → Matches (entered (e .tx) (e .rx) c (step e c .number) (step e c .given) l) (step e c .next)
-step-matches e c l w h = go (effect e c)
+step-matches e c l w h d s = go (effect e c)
   where
-    go : {f : Given → RunChange} {p : Part} {o : Outcome} → Effect f e p o → Matches (pick (eqb (o .number) 0) (enter (f (o .given)) l) l) (o .next)
-    go (refuses n q) = rw (ne-eqb n 0 (λ (z : n ≡ 0). omega (arith, leb-true 1 n q))) h
-    go (accepts z o p m) = rw z (matches l o w m h)
+    go : {f : Given → RunChange} {p : Part} {o : Outcome} → Effect f e p o → pick (eqb (o .number) 0) (enter (f (o .given)) l) l d s ≡ runAt (table d (o .next)) s
+    go (refuses n q) = rw (ne-eqb n 0 (λ (z : n ≡ 0). omega (arith, leb-true 1 n q))) (h d s)
+    go (accepts z o p m) = rw z (matches l o w m h d s)
 
 -- ---- a list of calls
 
@@ -169,12 +167,17 @@ fresh-matches : (n s : ℕ) → 0 ≡ runAt (replicate n freeEntry) s
 fresh-matches n s = rw (fresh-entry n s)
 
 opened-matches : {o : Opening} {x : Outcome} → Opens o x → Matches noRuns (x .next)
-opened-matches (opens p q) = record { sent = fresh-matches 256; held = fresh-matches 256 }
-opened-matches (shuts n h) = record { sent = fresh-matches 256; held = fresh-matches 256 }
+opened-matches (opens p q) transmit = fresh-matches 256
+opened-matches (opens p q) receive = fresh-matches 256
+opened-matches (shuts n h) transmit = fresh-matches 256
+opened-matches (shuts n h) receive = fresh-matches 256
 
 pub by-history : ByHistory
-by-history o cs =
-    let e : End = opening o .next in
-    let m = all-match (e .tx) (e .rx) e (opened o) refl refl cs noRuns (opened-matches (how-opened o)) in
-    let w = separate (left e cs) (left-reached e cs (opened o)) in
-    (accounts (w .sent) (m .sent), accounts (w .held) (m .held))
+by-history o cs d = go d (all-match (e .tx) (e .rx) e (opened o) refl refl cs noRuns (opened-matches (how-opened o)) d)
+  where
+    e : End
+    e = opening o .next
+
+    go : (d : Side) {l : Runs} → Same l (table d (left e cs)) → Accounts l (table d (left e cs))
+    go transmit h = accounts (separate (left e cs) (left-reached e cs (opened o)) .sent) h
+    go receive h = accounts (separate (left e cs) (left-reached e cs (opened o)) .held) h

@@ -15,8 +15,8 @@ use Rattle.blocks.proofs.Tables.{ends-before}
 use Rattle.icbmsg.specs.Outcome.{Given, Outcome}
 use Rattle.icbmsg.specs.Ends.{blockAt}
 use Rattle.icbmsg.specs.Calls.{room, view}
-use Rattle.icbmsg.specs.Ledger.{RunChange}
-use Rattle.icbmsg.specs.Theorems.{Part, room-part, view-part, partOf}
+use Rattle.icbmsg.specs.Ledger.{Side, transmit, receive, regionOf, table, RunChange}
+use Rattle.icbmsg.specs.Theorems.{Part, message-part, partOf}
 use Rattle.icbmsg.specs.Places.{InMessage, PartIn, PartsInside, InPart, PartsApart}
 use Rattle.icbmsg.specs.declared.Region.{Region}
 use Rattle.icbmsg.specs.End.{End}
@@ -42,13 +42,9 @@ message-byte : {g : Region} {t : List Entry} {s : ℕ} {o : Outcome} (p : ℕ) �
 message-byte p m i = record { live = m .live; low = omega (arith, m .after-header, i .0); high = omega (arith, m .before-end, i .1) }
 
 -- the part of a refusal has no byte
-room-byte : {e : End} {f : Given → RunChange} {o : Outcome} (s p : ℕ) → Effect f e (room-part s) o → InPart o p → ByteOf (e .tx) (e .sent) s p
-room-byte s p (refuses n h) i = absurd (omega (arith, i .0, i .1))
-room-byte s p (accepts z x m d) i = message-byte p m i
-
-view-byte : {e : End} {f : Given → RunChange} {o : Outcome} (s p : ℕ) → Effect f e (view-part s) o → InPart o p → ByteOf (e .rx) (e .held) s p
-view-byte s p (refuses n h) i = absurd (omega (arith, i .0, i .1))
-view-byte s p (accepts z x m d) i = message-byte p m i
+part-byte : {e : End} {f : Given → RunChange} {o : Outcome} (d : Side) (s p : ℕ) → Effect f e (message-part d s) o → InPart o p → ByteOf (regionOf d e) (table d e) s p
+part-byte d s p (refuses n h) i = absurd (omega (arith, i .0, i .1))
+part-byte d s p (accepts z x m y) i = message-byte p m i
 
 module _ (g : Region) {good : Entry → Bool} {t : List Entry} (w : WellFormed (g .count) good t) (p : ℕ) where
   -- a message that starts before another ends before it
@@ -66,8 +62,7 @@ module _ (g : Region) {good : Entry → Bool} {t : List Entry} (w : WellFormed (
 
 pub parts-apart : PartsApart
 unfolding partOf
-parts-apart e r s s′ d p =
-    let w = separate e r in (
-      λ tx tx′ h h′. apart (e .tx) (w .sent) p s s′ d (room-byte s p (effect e (room tx s)) h) (room-byte s′ p (effect e (room tx′ s′)) h′),
-      λ rx rx′ h h′. apart (e .rx) (w .held) p s s′ d (view-byte s p (effect e (view rx s)) h) (view-byte s′ p (effect e (view rx′ s′)) h′),
-    )
+parts-apart e r transmit s s′ d l l′ p h h′ =
+    apart (e .tx) (separate e r .sent) p s s′ d (part-byte transmit s p (effect e (room l s)) h) (part-byte transmit s′ p (effect e (room l′ s′)) h′)
+parts-apart e r receive s s′ d l l′ p h h′ =
+    apart (e .rx) (separate e r .held) p s s′ d (part-byte receive s p (effect e (view l s)) h) (part-byte receive s′ p (effect e (view l′ s′)) h′)

@@ -12,13 +12,13 @@ use Rattle.blocks.specs.Tables.{entry, starts, allFree, freed, taken, runEntry,
 use Rattle.endpoints.specs.Endpoints.{boundAt, someEndpoint}
 use Rattle.icbmsg.specs.Ends.{isOpen, whole, changed}
 use Rattle.icbmsg.specs.Messages.{sendOf}
-use Rattle.icbmsg.specs.Calls.{Call, rule, step, left}
+use Rattle.icbmsg.specs.Calls.{Call, rule, step}
 use Rattle.blocks.specs.WellFormed.{IsFree, Live, InRun, WellFormed}
 use Rattle.icbmsg.specs.WellFormed.{heldRun, bindingOf, Stored, Separate}
-use Rattle.icbmsg.specs.Theorems.{Part, Reached, called, SentTouched, HeldTouched, Untouched, RunsStay, SendTrims}
-use Rattle.icbmsg.specs.Ledger.{RunChange, runChange}
+use Rattle.icbmsg.specs.Theorems.{Part, called, Touched, RunsStay, SendTrims}
+use Rattle.icbmsg.specs.Ledger.{Side, transmit, receive, table, RunChange, runChange}
 use Rattle.blocks.proofs.Tables.{clash, Relation, below, first, later, above, relation, one-run, Taken, its-first, its-later, apart, Freed, gone, free-at, freed-view, first-entry, taken-view, free-law, live, run-of}
-use Rattle.icbmsg.proofs.Effects.{SentChange, takes, frees, trims, HeldChange, as-was, receives, finishes, stores, forgets, EndChange, stays, writes, reads, sends, keeps, Effect, refuses, accepts, sound, whole-open, size-pos, effect}
+use Rattle.icbmsg.proofs.Effects.{SentChange, run-taken, run-freed, run-trimmed, HeldChange, as-was, receives, finishes, stores, forgets, EndChange, stays, writes, reads, sends, keeps, Effect, refuses, accepts, sound, whole-open, size-pos, effect}
 use Rattle.blocks.proofs.LeastBlocks.{blocks-one, blocks-least}
 use Rattle.icbmsg.proofs.Separate.{separate}
 use Rattle.blocks.specs.declared.Use.{Use}
@@ -75,73 +75,60 @@ module _ {c : ℕ} {good : Entry → Bool} {t : List Entry} (o : WellFormed c go
 -- ---- each way that a table may change
 
 sent-kept : {c : ℕ} {good : Entry → Bool} {t t′ : List Entry} {x : RunChange} → WellFormed c good t → c ≤ 256 → SentChange c good t x t′ →
-    (s : ℕ) → Live t s → (SentTouched s x → ⊥) → (i : ℕ) → InRun t s i → entry t′ i ≡ entry t i
-sent-kept o b (takes u s′ n a k su g f h m) s l d i r = kept-by-taking o b s l i r u s′ n a k f h m
-sent-kept o b (frees s′ l′) s l d i r = kept-by-freeing o b s l i r s′ l′ d
-sent-kept o b (trims u s′ n a k l′ su g h m) s l d i r = kept-by-trimming o b s l i r s′ l′ d u n a k h m
+    (s : ℕ) → Live t s → (Touched transmit s x → ⊥) → (i : ℕ) → InRun t s i → entry t′ i ≡ entry t i
+sent-kept o b (run-taken u s′ n a k su g f h m) s l d i r = kept-by-taking o b s l i r u s′ n a k f h m
+sent-kept o b (run-freed s′ l′) s l d i r = kept-by-freeing o b s l i r s′ l′ (λ q. d (refl, q))
+sent-kept o b (run-trimmed u s′ n a k l′ su g h m) s l d i r = kept-by-trimming o b s l i r s′ l′ (λ q. d (refl, q)) u n a k h m
 
 held-kept : {g : Region} {t t′ : List Entry} {bs bs′ : List Binding} {x : RunChange} → WellFormed (g .count) (heldRun g) t → Stored t bs → g .count ≤ 256 → HeldChange g t bs x t′ bs′ →
-    (s : ℕ) → Live t s → (HeldTouched s x → ⊥) → (i : ℕ) → InRun t s i → entry t′ i ≡ entry t i
+    (s : ℕ) → Live t s → (Touched receive s x → ⊥) → (i : ℕ) → InRun t s i → entry t′ i ≡ entry t i
 held-kept o w b as-was s l d i r = refl
 held-kept o w b (receives s′ n a k h f m x) s l d i r = kept-by-taking o b s l i r _ s′ n a k f m x
-held-kept o w b (finishes s′ h) s l d i r = kept-by-freeing o b s l i r s′ (rw h) d
+held-kept o w b (finishes s′ h) s l d i r = kept-by-freeing o b s l i r s′ (rw h) (λ q. d (refl, q))
 held-kept o w b (stores s′ n a j name f m x lj z) s l d i r = kept-by-taking o b s l i r _ s′ n a 0 f m x
 held-kept {bs = bs} o w b (forgets j lj k) s l d i r =
     let x = w .runs j k in
-    rw (← (x .1)) (kept-by-freeing o b s l i r (bindingOf bs j .start) (rw (x .0)) d)
+    rw (← (x .1)) (kept-by-freeing o b s l i r (bindingOf bs j .start) (rw (x .0)) (λ q. d (refl, q)))
 
 -- ---- a call
 
-changed-kept : {e e′ : End} {x : RunChange} → isOpen e ≡ true → EndChange e x e′ → Separate e → (s : ℕ) →
-    (Live (e .sent) s → (SentTouched s x → ⊥) → (i : ℕ) → InRun (e .sent) s i → entry (e′ .sent) i ≡ entry (e .sent) i)
-    × (Live (e .held) s → (HeldTouched s x → ⊥) → (i : ℕ) → InRun (e .held) s i → entry (e′ .held) i ≡ entry (e .held) i)
+changed-kept : {e e′ : End} {x : RunChange} → isOpen e ≡ true → EndChange e x e′ → Separate e → (d : Side) (s : ℕ) → Live (table d e) s → (Touched d s x → ⊥) →
+    (i : ℕ) → InRun (table d e) s i → entry (table d e′) i ≡ entry (table d e) i
 unfolding changed
-changed-kept p stays w s = (λ l d i r. refl, λ l d i r. refl)
-changed-kept p (writes x h) w s = (λ l d i r. refl, λ l d i r. refl)
-changed-kept p (reads x h) w s = (λ l d i r. refl, λ l d i r. refl)
-changed-kept {e = e} p (sends ps h q) w s =
-    let z = sound e p in
-    (λ l d i r. sent-kept (w .sent) (omega (arith, leb-true)) h s l d i r, λ l d i r. refl)
-changed-kept {e = e} p (keeps ps h q) w s =
-    let z = sound e p in
-    (λ l d i r. refl, λ l d i r. held-kept (w .held) (w .stored) (omega (arith, leb-true)) h s l d i r)
+changed-kept p stays w d s l f i r = refl
+changed-kept p (writes x h) w transmit s l f i r = refl
+changed-kept p (writes x h) w receive s l f i r = refl
+changed-kept p (reads x h) w transmit s l f i r = refl
+changed-kept p (reads x h) w receive s l f i r = refl
+changed-kept {e = e} p (sends ps h q) w transmit s l f i r = let z = sound e p in sent-kept (w .sent) (omega (arith, leb-true)) h s l f i r
+changed-kept p (sends ps h q) w receive s l f i r = refl
+changed-kept p (keeps ps h q) w transmit s l f i r = refl
+changed-kept {e = e} p (keeps ps h q) w receive s l f i r = let z = sound e p in held-kept (w .held) (w .stored) (omega (arith, leb-true)) h s l f i r
 
-step-kept : (e : End) (c : Call) → Separate e → (s : ℕ) →
-    (Live (e .sent) s → (step e c .number ≡ 0 → SentTouched s (runChange (e .tx) (e .rx) c (step e c .given)) → ⊥) → (i : ℕ) → InRun (e .sent) s i → entry (step e c .next .sent) i ≡ entry (e .sent) i)
-    × (Live (e .held) s → (step e c .number ≡ 0 → HeldTouched s (runChange (e .tx) (e .rx) c (step e c .given)) → ⊥) → (i : ℕ) → InRun (e .held) s i → entry (step e c .next .held) i ≡ entry (e .held) i)
-step-kept e c w s = go (effect e c) w
+step-kept : (e : End) (c : Call) → Separate e → (d : Side) (s : ℕ) → Live (table d e) s →
+    (step e c .number ≡ 0 → Touched d s (runChange (e .tx) (e .rx) c (step e c .given)) → ⊥) → (i : ℕ) → InRun (table d e) s i → entry (table d (step e c .next)) i ≡ entry (table d e) i
+step-kept e c w d s l k i r = go (effect e c) k
   where
-    go : {f : Given → RunChange} {p : Part} {o : Outcome} → Effect f e p o → Separate e →
-        (Live (e .sent) s → (o .number ≡ 0 → SentTouched s (f (o .given)) → ⊥) → (i : ℕ) → InRun (e .sent) s i → entry (o .next .sent) i ≡ entry (e .sent) i)
-        × (Live (e .held) s → (o .number ≡ 0 → HeldTouched s (f (o .given)) → ⊥) → (i : ℕ) → InRun (e .held) s i → entry (o .next .held) i ≡ entry (e .held) i)
-    go (refuses n h) w = (λ l d i r. refl, λ l d i r. refl)
-    go (accepts z o p m) w =
-        let k = changed-kept o m w s in
-        (λ l d i r. k .0 l (d z) i r, λ l d i r. k .1 l (d z) i r)
+    go : {f : Given → RunChange} {p : Part} {o : Outcome} → Effect f e p o → (o .number ≡ 0 → Touched d s (f (o .given)) → ⊥) → entry (table d (o .next)) i ≡ entry (table d e) i
+    go (refuses n h) k = refl
+    go (accepts z o p m) k = changed-kept o m w d s l (k z) i r
 
 -- ---- a list of calls
 
 own-start : {c : ℕ} {good : Entry → Bool} {t : List Entry} → WellFormed c good t → (s : ℕ) → Live t s → InRun t s s
 own-start o s l = omega (arith, o .within s l .0)
 
-sent-through : (e : End) → Reached e → (s : ℕ) (cs : List Call) → Live (e .sent) s → Untouched (SentTouched s) e cs → (i : ℕ) → InRun (e .sent) s i → entry (left e cs .sent) i ≡ entry (e .sent) i
-sent-through e x s [] l k i r = refl
-sent-through e x s (c ∷ cs) l k i r =
-    let w = separate e x in
-    let f = step-kept e c w s .0 l (k .0) in
-    let q = f s (own-start (w .sent) s l) in
-    sent-through (step e c .next) (called c x) s cs (rw q l) (k .1) i (rw q r) ∙ f i r
-
-held-through : (e : End) → Reached e → (s : ℕ) (cs : List Call) → Live (e .held) s → Untouched (HeldTouched s) e cs → (i : ℕ) → InRun (e .held) s i → entry (left e cs .held) i ≡ entry (e .held) i
-held-through e x s [] l k i r = refl
-held-through e x s (c ∷ cs) l k i r =
-    let w = separate e x in
-    let f = step-kept e c w s .1 l (k .0) in
-    let q = f s (own-start (w .held) s l) in
-    held-through (step e c .next) (called c x) s cs (rw q l) (k .1) i (rw q r) ∙ f i r
+first-in : (e : End) → Separate e → (d : Side) (s : ℕ) → Live (table d e) s → InRun (table d e) s s
+first-in e w transmit s l = own-start (w .sent) s l
+first-in e w receive s l = own-start (w .held) s l
 
 pub runs-stay-until-touched : RunsStay
-runs-stay-until-touched e x s cs = (sent-through e x s cs, held-through e x s cs)
+runs-stay-until-touched e x d s [] l k i r = refl
+runs-stay-until-touched e x d s (c ∷ cs) l k i r =
+    let w = separate e x in
+    let f = step-kept e c w d s l (k .0) in
+    let q = f s (first-in e w d s l) in
+    runs-stay-until-touched (step e c .next) (called c x) d s cs (rw q l) (k .1) i (rw q r) ∙ f i r
 
 -- ---- a send
 

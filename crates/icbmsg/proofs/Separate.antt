@@ -17,12 +17,12 @@ use Rattle.icbmsg.specs.Ends.{isOpen, changed}
 use Rattle.icbmsg.specs.Opening.{opening, region, noRegion, fresh, freshOf, closedWith, txLayout, rxLayout}
 use Rattle.icbmsg.specs.declared.Opening.{Opening}
 use Rattle.icbmsg.specs.Calls.{Call, step, left}
-use Rattle.icbmsg.specs.Ledger.{RunChange}
+use Rattle.icbmsg.specs.Ledger.{transmit, receive, RunChange}
 use Rattle.blocks.specs.WellFormed.{leading, blockKind, IsFree, Live, InRun, WellFormed}
 use Rattle.icbmsg.specs.WellFormed.{sentRun, heldRun, bindingOf, IsStored, IsKept, Stored, Separate}
 use Rattle.icbmsg.specs.Theorems.{Part, Reached, opened, called, Covered, Separated, RunsDisjoint, BlocksCovered}
 use Rattle.blocks.proofs.Tables.{clash, one-run, Taken, its-first, its-later, apart, freed-live, freed-stays, taken-first, taken-stays, freed-view, taken-view, free-at, free-law, take-law, trim-law, fresh-entry, fresh-well-formed}
-use Rattle.icbmsg.proofs.Effects.{SentChange, takes, frees, trims, HeldChange, as-was, receives, finishes, stores, forgets, EndChange, writes, sends, keeps, Effect, refuses, accepts, sound, effect, stays, reads}
+use Rattle.icbmsg.proofs.Effects.{SentChange, run-taken, run-freed, run-trimmed, HeldChange, as-was, receives, finishes, stores, forgets, EndChange, writes, sends, keeps, Effect, refuses, accepts, sound, effect, stays, reads}
 use Rattle.blocks.specs.declared.Use.{Use}
 use Rattle.blocks.specs.declared.Use.the-variants.{Free, Inside, Reserved, SentData, SentBinding, ReceivedData, StoredBinding}
 use Rattle.blocks.specs.declared.Entry.{Entry}
@@ -145,9 +145,9 @@ module _ {t t′ : List Entry} {bs : List Binding} (w : Stored t bs) (j : ℕ) (
 -- ---- the laws, for each way that an end may change
 
 turned : {c : ℕ} {good : Entry → Bool} {t t′ : List Entry} {d : RunChange} → WellFormed c good t → c ≤ 256 → SentChange c good t d t′ → WellFormed c good t′
-turned {t = t} o b (takes u s n a k su g f l m) = take-law o b u s n a k su g (λ i p q. free-at t s n i f p q) l m
-turned o b (frees s l) = free-law o b s l
-turned o b (trims u s n a k l su g h m) = trim-law o b u s n a k l su g h m
+turned {t = t} o b (run-taken u s n a k su g f l m) = take-law o b u s n a k su g (λ i p q. free-at t s n i f p q) l m
+turned o b (run-freed s l) = free-law o b s l
+turned o b (run-trimmed u s n a k l su g h m) = trim-law o b u s n a k l su g h m
 
 kept-table : {g : Region} {t t′ : List Entry} {bs bs′ : List Binding} {d : RunChange} → WellFormed (g .count) (heldRun g) t → Stored t bs → g .count ≤ 256 → HeldChange g t bs d t′ bs′ → WellFormed (g .count) (heldRun g) t′
 kept-table o w b as-was = o
@@ -271,9 +271,8 @@ pub separate : Separated
 separate e r = reached-separate r
 
 pub disjoint : RunsDisjoint
-disjoint e r =
-    let w = separate e r in
-    ((λ s s′ i l l′ d p q. d (one-run (w .sent) s s′ i l l′ p q)), (λ s s′ i l l′ d p q. d (one-run (w .held) s s′ i l l′ p q)))
+disjoint e r transmit s s′ i l l′ d p q = d (one-run (separate e r .sent) s s′ i l l′ p q)
+disjoint e r receive s s′ i l l′ d p q = d (one-run (separate e r .held) s s′ i l l′ p q)
 
 covered-table : {c : ℕ} {good : Entry → Bool} {t : List Entry} → WellFormed c good t → Covered t
 covered-table {t = t} o i n = go (entry t i .usage) refl
@@ -291,7 +290,8 @@ covered-table {t = t} o i n = go (entry t i .usage) refl
     go StoredBinding q = live-in (ap blockKind q)
 
 pub covered : BlocksCovered
-covered e r = let w = separate e r in (covered-table (w .sent), covered-table (w .held))
+covered e r transmit = covered-table (separate e r .sent)
+covered e r receive = covered-table (separate e r .held)
 
 -- an end that a run from an opening leaves is reached
 pub left-reached : (e : End) (cs : List Call) → Reached e → Reached (left e cs)

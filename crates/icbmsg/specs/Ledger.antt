@@ -19,23 +19,33 @@ use Rattle.icbmsg.specs.Calls.{Call, start, push, pull, reserve, room, s
 use Rattle.icbmsg.specs.declared.Region.{Region}
 use Rattle.icbmsg.specs.End.{End}
 
+-- ---- the two directions
+
+pub data Side : Type 0 where
+  transmit receive : Side
+
+-- an end's region of that side, and the table of its blocks
+abbrev pub regionOf : Side → End → Region
+regionOf transmit e = e .tx
+regionOf receive e = e .rx
+
+abbrev pub table : Side → End → List Entry
+table transmit e = e .sent
+table receive e = e .held
+
 -- ---- what a call does to the runs
 
--- nothing; or in the transmit blocks (sent) or the receive blocks (held) a run of n blocks at s is taken, the one at s is trimmed to n
--- blocks, or freed
+-- nothing; or on one side a run of n blocks at s is taken, the one at s is trimmed to n blocks, or freed
 pub data RunChange : Type 0 where
   no-change : RunChange
-  sent-takes : (s n : ℕ) → RunChange
-  sent-trims : (s n : ℕ) → RunChange
-  sent-frees : (s : ℕ) → RunChange
-  held-takes : (s n : ℕ) → RunChange
-  held-frees : (s : ℕ) → RunChange
+  takes trims : (d : Side) (s n : ℕ) → RunChange
+  frees : (d : Side) (s : ℕ) → RunChange
 
 -- an accepted reserve takes the run that it answers
 abbrev pub reserveChange : Given → RunChange
 reserveChange nothing = no-change
 reserveChange (aLength k) = no-change
-reserveChange (aRun s n) = sent-takes s n
+reserveChange (aRun s n) = takes transmit s n
 reserveChange (control k a b) = no-change
 reserveChange (delivery a b k) = no-change
 
@@ -45,11 +55,11 @@ deliveryChange z nothing = no-change
 deliveryChange z (aLength k) = no-change
 deliveryChange z (aRun s n) = no-change
 deliveryChange z (control k a b) = no-change
-deliveryChange z (delivery a b k) = held-takes b (blocksFor z k)
+deliveryChange z (delivery a b k) = takes receive b (blocksFor z k)
 
 -- a binding in the n blocks at s that is accepted without an answer is stored, and holds them
 abbrev pub storedChange : ℕ → ℕ → Given → RunChange
-storedChange s n nothing = held-takes s n
+storedChange s n nothing = takes receive s n
 storedChange s n (aLength k) = no-change
 storedChange s n (aRun x m) = no-change
 storedChange s n (control k a b) = no-change
@@ -60,7 +70,7 @@ abbrev pub registerChange : ℕ → Given → RunChange
 registerChange n nothing = no-change
 registerChange n (aLength k) = no-change
 registerChange n (aRun s m) = no-change
-registerChange n (control k a s) = pick (eqb k 2) (sent-takes s n) (held-frees s)
+registerChange n (control k a s) = pick (eqb k 2) (takes transmit s n) (frees receive s)
 registerChange n (delivery a b k) = no-change
 
 -- rx are the bytes that the arrival itself was lent
@@ -68,9 +78,9 @@ abbrev pub arrivalChange : Region → List ℕ → Control → Given → RunChan
 arrivalChange r rx UnknownKind g = no-change
 arrivalChange r rx TooShort g = no-change
 arrivalChange r rx (DataSent a b) g = deliveryChange (r .size) g
-arrivalChange r rx (DataReleased b) g = sent-frees b
+arrivalChange r rx (DataReleased b) g = frees transmit b
 arrivalChange r rx (BindingSent a b) g = storedChange b (blocksFor (r .size) (sizeAt r b rx)) g
-arrivalChange r rx (BindingReleased a b) g = sent-frees b
+arrivalChange r rx (BindingReleased a b) g = frees transmit b
 
 -- An accepted call, by its arguments and what came with its answer. t and r are the regions' numbers, which no call changes.
 unfoldable pub runChange : Region → Region → Call → Given → RunChange
@@ -79,11 +89,11 @@ runChange t r (push tx c) g = no-change
 runChange t r (pull rx b) g = no-change
 runChange t r (reserve k) g = reserveChange g
 runChange t r (room tx s) g = no-change
-runChange t r (send tx s a k) g = sent-trims s (blocksFor (t .size) k)
-runChange t r (drop s) g = sent-frees s
+runChange t r (send tx s a k) g = trims transmit s (blocksFor (t .size) k)
+runChange t r (drop s) g = frees transmit s
 runChange t r (arrival rx m) g = arrivalChange r rx (decode m) g
 runChange t r (view rx s) g = no-change
-runChange t r (done s) g = held-frees s
+runChange t r (done s) g = frees receive s
 runChange t r (register tx n) g = registerChange (blocksFor (t .size) (length n + 1)) g
 runChange t r (askRoom s n) g = no-change
 runChange t r (askView s n) g = no-change
@@ -94,28 +104,32 @@ runChange t r (askView s n) g = no-change
 abbrev pub Runs : Type 0
 Runs = ℕ → ℕ
 
-pub record Ledger : Type 0 where
-  pub sent : Runs
-  pub held : Runs
+abbrev pub Ledger : Type 0
+Ledger = Side → Runs
 
 -- the run at s has n blocks from now on
 abbrev pub noted : ℕ → ℕ → Runs → Runs
 noted s n l x = pick (eqb x s) n (l x)
 
+-- on side d, and the other side stays
+abbrev pub notedOn : Side → ℕ → ℕ → Ledger → Ledger
+notedOn transmit s n l transmit = noted s n (l transmit)
+notedOn transmit s n l receive = l receive
+notedOn receive s n l transmit = l transmit
+notedOn receive s n l receive = noted s n (l receive)
+
 abbrev pub enter : RunChange → Ledger → Ledger
 enter no-change l = l
-enter (sent-takes s n) l = record { sent = noted s n (l .sent); held = l .held }
-enter (sent-trims s n) l = record { sent = noted s n (l .sent); held = l .held }
-enter (sent-frees s) l = record { sent = noted s 0 (l .sent); held = l .held }
-enter (held-takes s n) l = record { sent = l .sent; held = noted s n (l .held) }
-enter (held-frees s) l = record { sent = l .sent; held = noted s 0 (l .held) }
+enter (takes d s n) l = notedOn d s n l
+enter (trims d s n) l = notedOn d s n l
+enter (frees d s) l = notedOn d s 0 l
 
 -- a call with the number n, and what came with it: a refusal is not entered
 abbrev pub entered : Region → Region → Call → ℕ → Given → Ledger → Ledger
 entered t r c n g l = pick (eqb n 0) (enter (runChange t r c g) l) l
 
 abbrev pub noRuns : Ledger
-noRuns = record { sent = λ s. 0; held = λ s. 0 }
+noRuns d s = 0
 
 -- calls with their outcomes, of which number and what came with it are entered
 abbrev pub ledger : Region → Region → List Call → List Outcome → Ledger → Ledger
@@ -139,11 +153,10 @@ pub record Accounts (l : Runs) (t : List Entry) : Type 0 where
   pub runs : (s : ℕ) → l s ≡ runAt t s
   pub free : (i : ℕ) → IsFree t i ↔ ((s : ℕ) → s ≤ i → i < s + l s → ⊥)
 
--- Held or free by the history of accepted calls: for every opening and every list of calls, with any bytes lent, the tables of the end that
--- they leave are those of the ledger.
+-- Held or free by the history of accepted calls: for every opening and every list of calls, with any bytes lent, the table of each side of the
+-- end that they leave is that of the ledger.
 abbrev pub ByHistory : Type 0
 ByHistory =
-    (o : Opening) (cs : List Call) →
+    (o : Opening) (cs : List Call) (d : Side) →
     let e : End = opening o .next in
-    let l : Ledger = ledger (e .tx) (e .rx) cs (run e cs) noRuns in
-    Accounts (l .sent) (left e cs .sent) × Accounts (l .held) (left e cs .held)
+    Accounts (ledger (e .tx) (e .rx) cs (run e cs) noRuns d) (table d (left e cs))

@@ -16,7 +16,8 @@ use Rattle.icbmsg.specs.Ends.{blockAt}
 use Rattle.icbmsg.specs.Rings.{ringOf}
 use Rattle.icbmsg.specs.Messages.{need}
 use Rattle.icbmsg.specs.Calls.{Call, start, push, pull, reserve, room, send, drop, arrival, view, done, register, askRoom, askView, lent, step}
-use Rattle.icbmsg.specs.Theorems.{Reached, Part, no-part, length-part, room-part, view-part, partOf}
+use Rattle.icbmsg.specs.Theorems.{Reached, Part, no-part, length-part, message-part, partOf}
+use Rattle.icbmsg.specs.Ledger.{Side, transmit, receive, regionOf, table}
 use Rattle.icbmsg.specs.declared.Region.{Region}
 use Rattle.icbmsg.specs.End.{End}
 
@@ -33,8 +34,7 @@ pub record InMessage (g : Region) (t : List Entry) (s : ℕ) (o : Outcome) : Typ
 abbrev pub PartIn : End → Part → Outcome → Type 0
 PartIn e no-part o = (o .begin ≡ 0) × (o .size ≡ 0)
 PartIn e length-part o = (o .begin ≡ 0) × (o .size ≡ 0)
-PartIn e (room-part s) o = InMessage (e .tx) (e .sent) s o
-PartIn e (view-part s) o = InMessage (e .rx) (e .held) s o
+PartIn e (message-part d s) o = InMessage (regionOf d e) (table d e) s o
 
 -- The part that an accepted call hands out lies inside its own message: a room's in the transmit region, a view's in the receive
 -- region. Every other call hands out none.
@@ -45,12 +45,15 @@ PartsInside = (e : End) (c : Call) → step e c .number ≡ 0 → PartIn e (part
 abbrev pub InPart : Outcome → ℕ → Type 0
 InPart o p = (o .begin ≤ p) × (p < o .begin + o .size)
 
+-- the call for the part of the message at s, with these bytes lent
+abbrev pub asksFor : Side → List ℕ → ℕ → Call
+asksFor transmit tx s = room tx s
+asksFor receive rx s = view rx s
+
 -- rooms of different starts share no byte, and neither do views
 abbrev pub PartsApart : Type 0
 PartsApart =
-    (e : End) → Reached e → (s s′ : ℕ) → s ≢ s′ → (p : ℕ) →
-    ((tx tx′ : List ℕ) → InPart (step e (room tx s)) p → InPart (step e (room tx′ s′)) p → ⊥)
-    × ((rx rx′ : List ℕ) → InPart (step e (view rx s)) p → InPart (step e (view rx′ s′)) p → ⊥)
+    (e : End) → Reached e → (d : Side) (s s′ : ℕ) → s ≢ s′ → (lent lent′ : List ℕ) (p : ℕ) → InPart (step e (asksFor d lent s)) p → InPart (step e (asksFor d lent′ s′)) p → ⊥
 
 -- ---- writes
 

@@ -22,7 +22,7 @@ use Rattle.icbmsg.specs.declared.Opening.{Opening}
 use Rattle.icbmsg.specs.Messages.{need, reservation}
 use Rattle.icbmsg.specs.Registering.{announcement}
 use Rattle.icbmsg.specs.Calls.{Call, start, push, pull, reserve, room, send, drop, arrival, view, done, register, askRoom, askView, step, left}
-use Rattle.icbmsg.specs.Ledger.{RunChange, no-change, sent-takes, sent-trims, sent-frees, held-takes, held-frees, runChange}
+use Rattle.icbmsg.specs.Ledger.{Side, transmit, receive, table, RunChange, no-change, takes, trims, frees, runChange}
 use Rattle.icbmsg.specs.WellFormed.{bindingOf, Separate}
 use Rattle.icbmsg.specs.End.{End}
 
@@ -33,27 +33,27 @@ pub data Reached : End → Type 0 where
   opened : (o : Opening) → Reached (opening o .next)
   called : {e : End} (c : Call) → Reached e → Reached (step e c .next)
 
--- what a call hands out beside its number: the length of a ring call, a part of the message at s, or neither
+-- what a call hands out beside its number: the length of a ring call, a part of the message at s (a room on the transmit side, a view on the
+-- receive side), or neither
 pub data Part : Type 0 where
   no-part length-part : Part
-  room-part view-part : (s : ℕ) → Part
+  message-part : (d : Side) (s : ℕ) → Part
 
 abbrev pub refusedGiven : Part → Given
 refusedGiven no-part = nothing
 refusedGiven length-part = aLength 0
-refusedGiven (room-part s) = nothing
-refusedGiven (view-part s) = nothing
+refusedGiven (message-part d s) = nothing
 
 unfoldable pub partOf : Call → Part
 partOf (start tx) = length-part
 partOf (push tx c) = length-part
 partOf (pull rx b) = length-part
 partOf (reserve k) = no-part
-partOf (room tx s) = room-part s
+partOf (room tx s) = message-part transmit s
 partOf (send tx s a k) = no-part
 partOf (drop s) = no-part
 partOf (arrival rx m) = no-part
-partOf (view rx s) = view-part s
+partOf (view rx s) = message-part receive s
 partOf (done s) = no-part
 partOf (register tx n) = no-part
 partOf (askRoom s n) = no-part
@@ -101,45 +101,34 @@ abbrev pub Disjoint : List Entry → Type 0
 Disjoint t = (s s′ i : ℕ) → Live t s → Live t s′ → s ≢ s′ → InRun t s i → InRun t s′ i → ⊥
 
 abbrev pub RunsDisjoint : Type 0
-RunsDisjoint = (e : End) → Reached e → Disjoint (e .sent) × Disjoint (e .held)
+RunsDisjoint = (e : End) → Reached e → (d : Side) → Disjoint (table d e)
 
 -- and a block that is not free is in one
 abbrev pub Covered : List Entry → Type 0
 Covered t = (i : ℕ) → (entry t i .usage ≡ Free → ⊥) → (s : ℕ) × Live t s × InRun t s i
 
 abbrev pub BlocksCovered : Type 0
-BlocksCovered = (e : End) → Reached e → Covered (e .sent) × Covered (e .held)
+BlocksCovered = (e : End) → Reached e → (d : Side) → Covered (table d e)
 
 -- ---- demand 1: a message's blocks stay its own
 
--- it frees or trims the run at s, of the transmit blocks, and of the receive blocks
-abbrev pub SentTouched : ℕ → RunChange → Type 0
-SentTouched s no-change = ⊥
-SentTouched s (sent-takes x n) = ⊥
-SentTouched s (sent-trims x n) = x ≡ s
-SentTouched s (sent-frees x) = x ≡ s
-SentTouched s (held-takes x n) = ⊥
-SentTouched s (held-frees x) = ⊥
-
-abbrev pub HeldTouched : ℕ → RunChange → Type 0
-HeldTouched s no-change = ⊥
-HeldTouched s (sent-takes x n) = ⊥
-HeldTouched s (sent-trims x n) = ⊥
-HeldTouched s (sent-frees x) = ⊥
-HeldTouched s (held-takes x n) = ⊥
-HeldTouched s (held-frees x) = x ≡ s
+-- it frees or trims the run at s on side d
+abbrev pub Touched : Side → ℕ → RunChange → Type 0
+Touched d s no-change = ⊥
+Touched d s (takes x y n) = ⊥
+Touched d s (trims x y n) = (x ≡ d) × (y ≡ s)
+Touched d s (frees x y) = (x ≡ d) × (y ≡ s)
 
 -- none of these calls, one after the other, is accepted and does so
-abbrev pub Untouched : (RunChange → Type 0) → End → List Call → Type 0
-Untouched f e [] = Unit {0}
-Untouched f e (c ∷ cs) = (step e c .number ≡ 0 → f (runChange (e .tx) (e .rx) c (step e c .given)) → ⊥) × Untouched f (step e c .next) cs
+abbrev pub Untouched : Side → ℕ → End → List Call → Type 0
+Untouched d s e [] = Unit {0}
+Untouched d s e (c ∷ cs) = (step e c .number ≡ 0 → Touched d s (runChange (e .tx) (e .rx) c (step e c .given)) → ⊥) × Untouched d s (step e c .next) cs
 
 -- Whatever calls and bytes come: as long as no accepted call frees or trims a live run, each of its blocks has the entry that it had.
 abbrev pub RunsStay : Type 0
 RunsStay =
-    (e : End) → Reached e → (s : ℕ) (cs : List Call) →
-    (Live (e .sent) s → Untouched (SentTouched s) e cs → (i : ℕ) → InRun (e .sent) s i → entry (left e cs .sent) i ≡ entry (e .sent) i)
-    × (Live (e .held) s → Untouched (HeldTouched s) e cs → (i : ℕ) → InRun (e .held) s i → entry (left e cs .held) i ≡ entry (e .held) i)
+    (e : End) → Reached e → (d : Side) (s : ℕ) (cs : List Call) → Live (table d e) s → Untouched d s e cs →
+    (i : ℕ) → InRun (table d e) s i → entry (table d (left e cs)) i ≡ entry (table d e) i
 
 -- A send keeps its reservation: it starts where it did, with as many of its blocks as K needs.
 abbrev pub SendTrims : Type 0

@@ -6,7 +6,7 @@ ghost use lib.ListN.{length, take};
 ghost use Rattle.wire.specs.Bytes.{wrote};
 ghost use Rattle.icbmsg.specs.Messages.{roomOf, viewOf};
 ghost use Rattle.icbmsg.specs.Calls.{step as stepRule, pull as pullCall};
-ghost use Rattle.link.specs.Answers.{endOf, outcomeOf, ringOutcomeOf};
+ghost use Rattle.link.specs.Answers.{answerNumber, answerGiven, endOf, outcomeOf, ringOutcomeOf};
 ghost use Rattle.script.specs.Rows.{reply, replyOf};
 ghost use Rattle.script.specs.Records.{has};
 ghost use Rattle.script.specs.Calls.{IsCall, RanAs, Wrote, callOutcome, overwritten, Leaves, recordStep, stepOf};
@@ -15,6 +15,7 @@ use icbmsg::Region;
 use link::Answer;
 use link::Called;
 use link::End;
+use link::Place;
 use link::RingCalled;
 
 // How many bytes of each region calls are lent, if the memory has as many.
@@ -54,13 +55,25 @@ fn of_ring_call(c: RingCalled) -> Ran
     Ran { reply, end }
 }
 
+// Of a room or view: where it is said to lie, and how many bytes were handed out, which are as many.
+fn placed(place: Place, size: usize) -> [u32; 9]
+    requires { ⌜ size ≡ place .size ⌝ }
+    ensures { λ r. ⌜ r ≡ reply (answerNumber (place .answer)) (answerGiven (place .answer)) (place .begin) size ⌝ }
+{
+    let answer = place.answer;
+    let mut reply = rows::answered(answer);
+    reply[6] = place.begin;
+    reply[7] = size as u32;
+    reply
+}
+
 // The room of a reservation: its place, and the bytes of the part that is lent.
 fn room(end: End, tx: &mut [u8], start: u32) -> [u32; 9]
     ensures { λ r. ⌜ r ≡ replyOf (roomOf (endOf end) (length (now (tx .entry))) start) ⌝ }
 {
     let place = end.room_place(start, tx.len());
     let size = end.room(tx, start).len();
-    rows::placed(place, size)
+    placed(place, size)
 }
 
 // The view of a received message.
@@ -69,7 +82,7 @@ fn view(end: End, rx: &[u8], start: u32) -> [u32; 9]
 {
     let place = end.view_place(start, rx.len());
     let size = end.view(rx, start).len();
-    rows::placed(place, size)
+    placed(place, size)
 }
 
 // Takes a packet off the receive ring, into the first n bytes of the buffer.
@@ -138,7 +151,7 @@ fn overwrite(memory: &mut [u8], body: &[u8])
 }
 
 // Runs a record on the end.
-pub fn step(
+pub(super) fn step(
     end: End,
     lent: Lent,
     kind: u8,

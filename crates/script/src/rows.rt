@@ -7,7 +7,6 @@ ghost use Rattle.script.specs.Rows.{reply, weighted, sum as sumRule, row
 use link::Answer;
 use link::End;
 use link::PacketAnswer;
-use link::Place;
 
 // Bytes of a row.
 pub const BYTES: usize = 56;
@@ -42,18 +41,6 @@ pub fn ring_answered(a: PacketAnswer) -> [u32; 9]
         PacketAnswer::Length(k) => [0, 1, k, 0, 0, 0, 0, 0, 1],
         PacketAnswer::Refused(x) => [x.number(), 1, 0, 0, 0, 0, 0, 0, 1],
     }
-}
-
-// Of a room or view: where it is said to lie, and how many bytes were handed out, which are as many.
-pub fn placed(place: Place, size: usize) -> [u32; 9]
-    requires { ⌜ size ≡ place .size ⌝ }
-    ensures { λ r. ⌜ r ≡ reply (answerNumber (place .answer)) (answerGiven (place .answer)) (place .begin) size ⌝ }
-{
-    let answer = place.answer;
-    let mut reply = answered(answer);
-    reply[6] = place.begin;
-    reply[7] = size as u32;
-    reply
 }
 
 const MODULUS: u64 = 65521;

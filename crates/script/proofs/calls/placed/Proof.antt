@@ -1,6 +1,6 @@
 use borrow.Author.Needs.{needs}
-use Rattle.script.proofs.rows.placed.Statement.{statement}
-use Rattle.script.proofs.rows.placed.Tie as tie
+use Rattle.script.proofs.calls.placed.Statement.{statement}
+use Rattle.script.proofs.calls.placed.Tie as tie
 
 answered-requires : tie.Need-answered-requires
 answered-requires c κs = search needs
