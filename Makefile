@@ -1,7 +1,8 @@
 # Two commands: `make demo` shows the link at work, `make test` runs the gate. All that is built goes below target/.
 #
 # For a longer look: `make soak` compares random traffic with the second program for MINUTES (10), from SEED on (the clock);
-# `make faults` plants faults in the second program and shows how soon the traffic finds them; `make bench` measures.
+# `make faults` plants faults in the second program and shows how soon the traffic finds them; `make bench` measures time, and
+# `make measure` stack and copies.
 
 CFLAGS = -std=c99 -O2 -Wall -Wextra -Wpedantic -Werror -Iinclude
 MINUTES = 10
@@ -14,7 +15,7 @@ compared = target/second/release/second
 shown = layout ring
 examples = $(shown) script
 
-.PHONY: demo test bench library second soak faults examples-test clean
+.PHONY: demo test bench measure library second soak faults examples-test clean
 
 demo: $(shown:%=target/examples/%) target/bin/demo
 	@set -e; for name in $(shown); do target/examples/$$name; echo; done
@@ -47,6 +48,11 @@ examples-test: $(examples:%=target/examples/%)
 bench: target/bench/ring target/bench/calls
 	target/bench/ring
 	target/bench/calls
+
+# Stack and copies of the compiled calls, function by function, and the size of an end.
+measure: $(rounds) target/bench/calls
+	@objdump -dr --no-show-raw-insn $(rounds) | awk -f bench/frames.awk
+	@target/bench/calls | tail -n 1
 
 target/bench/ring: bench/ring.c bench/plain_ring.c bench/plain_ring.h include/petrelknob.h $(panel)
 	@mkdir -p $(@D)

@@ -9,6 +9,7 @@
 #include <time.h>
 
 enum { ALIGNMENT = 32, RX_BEGIN = 0x20000000, TX_BEGIN = 0x20100000, LARGEST = 1048576, ROUNDS = 20000, RUNS = 41 };
+enum { PROVED_TABLES = 3136 };
 
 /* What a round is made on: the alignment, then the transmit and the receive region. An initiator's receive region is the lower one. */
 struct scene {
@@ -18,7 +19,7 @@ struct scene {
     uint32_t k;
 };
 
-/* The fields of the proved end, as crates/link declares it and crates/icbmsg its regions, for its size. */
+/* The fields of the proved end, as crates/link declares it and crates/icbmsg its numbers, for its size. */
 struct proved_region {
     uint32_t bytes, base, ring, blocks;
     uint16_t count;
@@ -30,7 +31,7 @@ struct proved_end {
     uint16_t align;
     struct proved_region tx, rx;
     uint32_t write, read;
-    struct plain_entry sent[PLAIN_BLOCKS], held[PLAIN_BLOCKS];
+    uint8_t tables[PROVED_TABLES];
     struct plain_endpoint endpoints[PLAIN_ENDPOINTS];
     struct plain_binding bindings[PLAIN_BINDINGS];
 };

@@ -19,8 +19,8 @@ fn opened() -> End {
         end: 0x20078000 + REGION,
         blocks: 3,
     };
-    let called = End::open(Opening { align: 4, tx, rx });
-    called.end
+    let opened = End::open(Opening { align: 4, tx, rx });
+    opened.end
 }
 
 fn number_of(a: PacketAnswer) -> u32 {
@@ -31,13 +31,16 @@ fn number_of(a: PacketAnswer) -> u32 {
 }
 
 // Pushes the control message for data, address 2, block 5, and prints the number of the answer.
-fn push(end: End, tx: &mut [u8], i: u32) -> End {
+fn push(mut end: End, tx: &mut [u8], i: u32) -> End {
     let message = [0u8, 2, 5];
-    let pushed = end.push(tx, &message);
+    let before = end.numbers;
+    let pushed = End::push(before, tx, &message);
     let answer = pushed.answer;
+    let numbers = pushed.numbers;
+    end.numbers = numbers;
     let line = Line::new().text(b"packet ").number(i).text(b" is ");
     line.number(number_of(answer)).print();
-    pushed.end
+    end
 }
 
 fn main() {
@@ -45,7 +48,9 @@ fn main() {
     let tx: &mut [u8] = &mut region;
     let mut end = opened();
     let line = Line::new().text(b"a ring with ");
-    line.number(end.tx.ring).text(b" data bytes").print();
+    line.number(end.numbers.tx.ring)
+        .text(b" data bytes")
+        .print();
     let mut i: u32 = 1;
     while i <= 8 {
         end = push(end, tx, i);

@@ -12,8 +12,8 @@ use Rattle.blocks.specs.Tables.{blocksFor}
 use Rattle.blocks.specs.declared.Entry.{Entry}
 use Rattle.icbmsg.specs.Arrivals.{fitsArea, areFree}
 use Rattle.icbmsg.specs.declared.Region.{Region}
-use Rattle.checks.specs.declared.Measured.{Measured}
-use Rattle.checks.specs.declared.Measured.the-variants.{Refused, Fits}
+use Rattle.checks.specs.declared.arrivals.Measured.{Measured}
+use Rattle.checks.specs.declared.arrivals.Measured.the-variants.{Refused, Fits}
 
 -- the region's blocks, at most 256 and of 4 bytes at least, lie in the n bytes that are lent
 abbrev pub areLent : ℕ → Region → Bool

@@ -1,12 +1,26 @@
-// What a call looks at before it changes anything: an end's numbers, a control message, the size of an arriving message.
+// What a call decides before it changes anything: each function here looks at an end's parts, and answers the refusal, or what the call
+// needs to go on. Nothing is read twice.
+pub mod arrivals;
+pub mod registrations;
+
+ghost use mathlib.Core.Bool.{_&&_};
 ghost use mathlib.Core.Path.{_≡_};
+ghost use Prim.Native.Nat.{_≤_};
+ghost use lib.Dec.{eqb};
 ghost use lib.ListN.{length};
+ghost use Rattle.refusal.specs.Numbers.{numberOf};
 ghost use Rattle.blocks.specs.Search.{all};
+ghost use Rattle.blocks.specs.Tables.{entry, starts, startsData};
+ghost use Rattle.tables.specs.Compact.{tableOf};
 ghost use Rattle.icbmsg.specs.Ends.{soundRegion, openNumbers};
-ghost use Rattle.icbmsg.specs.Arrivals.{decode as decodeRule, sizeAt};
-ghost use Rattle.checks.specs.Measuring.{areLent, placeNumber, measuredNumber, MeasuredAs};
+ghost use Rattle.checks.specs.Decisions.{RunAs, FitAs, ReservesAs, Sends};
 use blocks::Entry;
-use icbmsg::Control;
+use blocks::Found;
+use blocks::RunAt;
+use blocks::Use;
+use endpoints::Addressee;
+use endpoints::Endpoint;
+use icbmsg::Numbers;
 use icbmsg::Region;
 use refusal::Refusal;
 
@@ -17,11 +31,29 @@ const MAX_BYTES: usize = region::MAX_BYTES as usize;
 
 const MAX_BLOCKS: usize = region::MAX_BLOCKS as usize;
 
-// An arriving message, measured: its length and how many blocks it takes, or why it is refused.
-pub enum Measured {
+// A live run's first entry, or why there is none.
+pub enum Run {
     Refused(Refusal),
-    Fits { length: u32, count: usize },
+    Live(Entry),
 }
+
+// Where the blocks of a message lie that is to be written, and how many they are.
+pub enum Space {
+    Refused(Refusal),
+    At { start: usize, count: usize },
+}
+
+// A send: the address as a byte, how many blocks the reservation has, and how many the message needs.
+pub enum Sending {
+    Refused(Refusal),
+    Fits {
+        address: u8,
+        held: usize,
+        count: usize,
+    },
+}
+
+// ---- an end's numbers
 
 // Whether header, ring data and blocks of a region at alignment a lie one behind the other inside the region's bytes.
 fn is_sound(a: u16, g: Region) -> bool
@@ -42,76 +74,131 @@ fn is_sound(a: u16, g: Region) -> bool
                         & ((1 <= count) & ((count <= MAX_BLOCKS) & (4 <= size)))))))
 }
 
-// Whether the numbers are those of an open end. They come one by one, so that no call copies its end for this.
-pub fn is_open(a: u16, tx: Region, rx: Region, write: u32, read: u32) -> bool
-    ensures { λ r. ⌜ r ≡ openNumbers a tx rx write read ⌝ }
+// Whether the numbers are those of an open end.
+pub fn is_open(n: Numbers) -> bool
+    ensures { λ r. ⌜ r ≡ openNumbers (n .align) (n .tx) (n .rx) (n .write) (n .read) ⌝ }
 {
+    let a = n.align;
     (4 <= a)
         & ((a <= MAX_ALIGNMENT)
             & ((a % 4 == 0)
-                & (icmsg::in_rule(tx.ring, write)
-                    & (icmsg::in_rule(rx.ring, read) & (is_sound(a, tx) & is_sound(a, rx))))))
+                & (icmsg::in_rule(n.tx.ring, n.write)
+                    & (icmsg::in_rule(n.rx.ring, n.read)
+                        & (is_sound(a, n.tx) & is_sound(a, n.rx))))))
 }
 
-// Takes a control message apart.
-pub fn decode(message: &[u8]) -> Control
-    ensures { λ r. ⌜ r ≡ decodeRule (now (message .entry)) ⌝ }
+// Whether they are, and the region g is lent whole.
+pub fn is_whole(n: Numbers, g: Region, lent: usize) -> bool
+    ensures { λ r. ⌜ r ≡ (openNumbers (n .align) (n .tx) (n .rx) (n .write) (n .read) && eqb lent (g .bytes)) ⌝ }
 {
-    if message.len() == 0 {
-        return Control::TooShort;
+    is_open(n) & (lent == g.bytes as usize)
+}
+
+// ---- runs
+
+// The live run in use u that starts at s, behind a check that has passed, or not.
+pub fn live(
+    passed: bool,
+    otherwise: Refusal,
+    t: &[u8],
+    base: usize,
+    u: Use,
+    count: u16,
+    s: u32,
+) -> Run
+    requires { ⌜ (base ≤ 1568) × (length (now t) ≡ 3136) ⌝ }
+    ensures { λ r. ⌜ RunAs r (numberOf otherwise) passed (starts u count (tableOf (now (t .entry)) base) s) (entry (tableOf (now (t .entry)) base) s) ⌝ }
+{
+    if !passed {
+        return Run::Refused(otherwise);
     }
-    let kind = message[0];
-    if 3 < kind {
-        return Control::UnknownKind;
-    }
-    if message.len() < 3 {
-        return Control::TooShort;
-    }
-    let address = message[1];
-    let block = message[2];
-    match kind {
-        0 => Control::DataSent { address, block },
-        1 => Control::DataReleased(block),
-        2 => Control::BindingSent { address, block },
-        _ => Control::BindingReleased { address, block },
+    match tables::run_at(t, base, u, count, s) {
+        RunAt::Nothing => Run::Refused(Refusal::NoMessage),
+        RunAt::Live(x) => Run::Live(x),
     }
 }
 
-// Whether the region's blocks, at most 256 and of 4 bytes at least, lie in n bytes.
-fn are_lent(n: usize, g: Region) -> bool
-    ensures { λ r. ⌜ r ≡ areLent n g ⌝ }
+// The received data that starts at s, behind such a check.
+pub fn received(passed: bool, t: &[u8], g: Region, s: u32) -> Run
+    requires { ⌜ length (now t) ≡ 3136 ⌝ }
+    ensures { λ r. ⌜ RunAs r 6 passed (startsData (g .count) (g .size) (tableOf (now (t .entry)) 1568) s) (entry (tableOf (now (t .entry)) 1568) s) ⌝ }
 {
-    let size = g.size as usize;
-    let count = g.count as usize;
-    let blocks = g.blocks as usize;
-    (4 <= size) & ((count <= MAX_BLOCKS) & ((blocks + count * size <= n) & (n <= MAX_BYTES)))
+    if !passed {
+        return Run::Refused(Refusal::WrongRegion);
+    }
+    match tables::data_at(t, tables::HELD, g.count, g.size, s) {
+        RunAt::Nothing => Run::Refused(Refusal::NoMessage),
+        RunAt::Live(x) => Run::Live(x),
+    }
 }
 
-// Measures the message in receive block b: checks 6, 16, 17 and 18. Its size is read here, and nowhere again.
-pub fn measure(rx: &[u8], g: Region, held: [Entry; blocks::BLOCKS], b: u8) -> Measured
-    ensures number { λ r. ⌜ measuredNumber r ≡ placeNumber (length (now (rx .entry))) g held b (sizeAt g b (now (rx .entry))) ⌝ }
-    ensures size { λ r. ⌜ MeasuredAs r g b (sizeAt g b (now (rx .entry))) ⌝ }
+// ---- messages that are written
+
+// The lowest blocks of the region g that hold k bytes: checks 23 and 24.
+pub fn fit(g: Region, t: &[u8], k: u32) -> Space
+    requires { ⌜ (1 ≤ g .size) × (g .count ≤ 256) × (length (now t) ≡ 3136) ⌝ }
+    ensures { λ r. ⌜ FitAs r g (tableOf (now (t .entry)) 0) k ⌝ }
 {
-    if !are_lent(rx.len(), g) {
-        return Measured::Refused(Refusal::WrongRegion);
+    let count = blocks::least_blocks(g.size, k);
+    if (g.count as usize) < count {
+        return Space::Refused(Refusal::CannotFit);
     }
-    let s = b as usize;
-    let count = g.count as usize;
-    let size = g.size as usize;
-    if count <= s {
-        return Measured::Refused(Refusal::BadBlock);
+    match tables::lowest_run(t, tables::SENT, g.count, count) {
+        Found::Nowhere => Space::Refused(Refusal::NoRoom),
+        Found::At(start) => Space::At { start, count },
     }
-    let k = wire::read_u32(rx, g.blocks as usize + s * size);
-    if (count - s) * size < k as usize + 4 {
-        return Measured::Refused(Refusal::PastTheLastBlock);
+}
+
+// The blocks of a reservation of k bytes.
+pub fn reservation(n: Numbers, t: &[u8], k: u32) -> Space
+    requires { ⌜ length (now t) ≡ 3136 ⌝ }
+    ensures { λ r. ⌜ ReservesAs r n (now (t .entry)) k ⌝ }
+{
+    if !is_open(n) {
+        return Space::Refused(Refusal::WrongRegion);
     }
-    let n = blocks::least_blocks(g.size, k);
-    if blocks::all_free(held, s, n) {
-        Measured::Fits {
-            length: k,
-            count: n,
-        }
-    } else {
-        Measured::Refused(Refusal::BlockHeld)
+    fit(n.tx, t, k)
+}
+
+// What a send of k bytes of the reservation at s needs: checks 6, 25, 15 and 23.
+pub fn send(
+    n: Numbers,
+    t: &[u8],
+    endpoints: [Endpoint; endpoints::PLACES],
+    lent: usize,
+    s: u32,
+    address: u32,
+    k: u32,
+) -> Sending
+    requires { ⌜ length (now t) ≡ 3136 ⌝ }
+    ensures { λ r. ⌜ Sends r n (now (t .entry)) endpoints lent s address k ⌝ }
+{
+    let whole = is_whole(n, n.tx, lent);
+    let run = live(
+        whole,
+        Refusal::WrongRegion,
+        t,
+        tables::SENT,
+        Use::Reserved,
+        n.tx.count,
+        s,
+    );
+    match run {
+        Run::Refused(x) => Sending::Refused(x),
+        Run::Live(x) => match endpoints::find_addressee(endpoints, address) {
+            Addressee::Nobody => Sending::Refused(Refusal::NotBound),
+            Addressee::Bound(to) => {
+                let held = x.count as usize;
+                if held * (n.tx.size as usize) < k as usize + 4 {
+                    return Sending::Refused(Refusal::CannotFit);
+                }
+                let count = blocks::least_blocks(n.tx.size, k);
+                Sending::Fits {
+                    address: to,
+                    held,
+                    count,
+                }
+            }
+        },
     }
 }

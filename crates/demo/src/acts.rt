@@ -1,11 +1,14 @@
 // What the demonstration shows, act by act.
 use crate::calls;
+use crate::calls::Memory;
 use crate::ends::Ends;
+use crate::texts;
 use icbmsg::Bounds;
 use icbmsg::Opening;
 use icbmsg::Region;
 use lines::Line;
 use link::Answer;
+use link::End;
 
 const ALIGNMENT: u32 = 32;
 
@@ -44,7 +47,7 @@ pub fn legend() {
 }
 
 // Both ends are opened, and each pulls the other's start content.
-pub fn open(to_pump: &mut [u8], to_panel: &mut [u8]) -> Ends {
+pub fn open() -> Ends {
     heading(b"1. Opening and start");
     let from = calls::open(Opening {
         align: ALIGNMENT,
@@ -56,53 +59,54 @@ pub fn open(to_pump: &mut [u8], to_panel: &mut [u8]) -> Ends {
         tx: TO_PANEL,
         rx: TO_PUMP,
     });
-    let ends = Ends {
-        answer: Answer::Accepted,
-        from,
-        to,
-    };
-    ends.start(to_pump).turned().start(to_panel).turned()
+    Ends::new(from, to).start().turned().start().turned()
 }
 
 // The panel's end registers, and its binding arrives first: it is stored until the pump's end registers the same name.
-pub fn bind(ends: Ends, to_pump: &mut [u8], to_panel: &mut [u8]) -> Ends {
+pub fn bind(ends: Ends) -> Ends {
     heading(b"2. Binding the endpoint calibration");
-    let ends = register(ends, to_pump).turned();
-    let ends = register(ends, to_panel).turned();
-    calls::endpoint(ends.from);
-    calls::endpoint(ends.to);
+    let ends = register(register(ends).turned()).turned();
+    show_endpoint(ends.from);
+    show_endpoint(ends.to);
     ends
 }
 
+// An end's first endpoint, as it stands.
+fn show_endpoint(end: End) {
+    let endpoints = end.endpoints;
+    let line = texts::by(end.numbers, b"endpoint ");
+    texts::endpoint(line, endpoints[0]).print();
+}
+
 // One end registers, and what it answers goes to the other. A binding lies in a block of the initiator's region.
-fn register(ends: Ends, region: &mut [u8]) -> Ends {
-    let registered = ends.register(region, b"calibration");
+fn register(ends: Ends) -> Ends {
+    let registered = ends.register(b"calibration");
     registered.from_initiator().show();
-    let carried = registered.carry(region);
+    let carried = registered.carry();
     carried.from_initiator().show();
     carried
 }
 
 // More is reserved than is sent: send frees the blocks beyond the need.
-pub fn hold(ends: Ends, to_pump: &mut [u8]) -> Ends {
+pub fn hold(ends: Ends) -> Ends {
     heading(b"3. A message arrives, and the pump holds it");
     let text = b"hand-set: 4.10 bar at 1450 rpm, 7.20 bar at 1950 rpm";
-    ends.send(to_pump, 200, text).announce(to_pump)
+    ends.send(200, text).announce()
 }
 
 // A message the same way, while the first one is held.
-pub fn ask(ends: Ends, to_pump: &mut [u8], to_panel: &mut [u8]) -> Ends {
+pub fn ask(ends: Ends) -> Ends {
     heading(b"4. Others come and go, both ways, while it is held");
-    ends.pass(to_pump, to_panel, 9, b"pressure?")
+    ends.pass(9, b"pressure?")
 }
 
 // A message the other way, whose blocks are smaller.
-pub fn reply(ends: Ends, to_pump: &mut [u8], to_panel: &mut [u8]) -> Ends {
+pub fn reply(ends: Ends) -> Ends {
     let text = b"4.12 bar at 1452 rpm, valve open";
-    ends.turned().pass(to_panel, to_pump, 40, text).turned()
+    ends.turned().pass(40, text).turned()
 }
 
-fn put_header(region: &mut [u8], g: Region, block: u8, k: u32) {
+fn put_header(region: &mut Memory, g: Region, block: u8, k: u32) {
     let at = g.blocks as usize + block as usize * g.size as usize;
     if at + 4 <= region.len() {
         wire::write_u32(region, at, k);
@@ -110,18 +114,18 @@ fn put_header(region: &mut [u8], g: Region, block: u8, k: u32) {
 }
 
 // The sender's core writes over the header of one of its blocks: in its own region it can write what it likes.
-fn write_header(ends: Ends, region: &mut [u8], block: u8, k: u32) {
-    put_header(region, ends.from.tx, block, k);
-    let line = Line::by(ends.from.initiator)
-        .text(b"core writes 0x")
-        .hex(k, 8);
+fn write_header(mut ends: Ends, block: u8, k: u32) -> Ends {
+    let n = ends.from.numbers;
+    put_header(&mut ends.region, n.tx, block, k);
+    let line = texts::by(n, b"core writes 0x").hex(k, 8);
     line.text(b" over the header of block ")
         .number(wire::wide(block))
         .print();
+    ends
 }
 
 // Writes over the header of the message that the answered control message names, and carries that over.
-fn announce_with(ends: Ends, region: &mut [u8], k: u32) -> Ends {
+fn announce_with(ends: Ends, k: u32) -> Ends {
     let a = ends.answer;
     let Answer::Control {
         kind: _,
@@ -131,12 +135,11 @@ fn announce_with(ends: Ends, region: &mut [u8], k: u32) -> Ends {
     else {
         return ends;
     };
-    write_header(ends, region, block, k);
-    ends.announce(region)
+    write_header(ends, block, k).announce()
 }
 
 // The size of the held message was read at its arrival, and is not read again. Sent once more, it is refused: its block is held.
-pub fn spoil(ends: Ends, to_pump: &mut [u8]) -> Ends {
+pub fn spoil(ends: Ends) -> Ends {
     heading(b"5. The panel's core writes over the header of the held message");
     let held = ends.answer;
     let Answer::Delivered {
@@ -147,37 +150,32 @@ pub fn spoil(ends: Ends, to_pump: &mut [u8]) -> Ends {
     else {
         return ends;
     };
-    write_header(ends, to_pump, block, 0xFFFFFFFF);
-    ends.view(to_pump);
+    let ends = write_header(ends, block, 0xFFFFFFFF);
+    ends.view();
     let again = ends.with(Answer::Control {
         kind: 0,
         address,
         block,
     });
-    let ends = announce_with(again, to_pump, 5).with(held);
-    ends.view(to_pump);
+    let ends = announce_with(again, 5).with(held);
+    ends.view();
     ends
 }
 
-// A header that is wrong when the message arrives is refused. With its own header the same message goes through.
-pub fn mend(ends: Ends, to_pump: &mut [u8], to_panel: &mut [u8]) -> Ends {
+// A header that is wrong when the message arrives is refused. With the header that send wrote, of the text's five bytes, it goes through.
+pub fn mend(ends: Ends) -> Ends {
     heading(b"6. A header that is wrong when its message arrives");
-    let ends = ends.send(to_pump, 5, b"flow?");
+    let ends = ends.send(5, b"flow?");
     let control = ends.answer;
-    let ends = announce_with(ends, to_pump, 0xFFFFFFFF).with(control);
-    announce_right(ends, to_pump, to_panel)
-}
-
-// With the header that send wrote: the text has five bytes.
-fn announce_right(ends: Ends, to_pump: &mut [u8], to_panel: &mut [u8]) -> Ends {
-    announce_with(ends, to_pump, 5).finish(to_panel)
+    let ends = announce_with(ends, 0xFFFFFFFF).with(control);
+    announce_with(ends, 5).finish()
 }
 
 // What was held is free again, in both tables, and no message starts there.
-pub fn release(ends: Ends, to_pump: &mut [u8], to_panel: &mut [u8]) {
+pub fn release(ends: Ends) {
     heading(b"7. The pump is done with the held message");
     let held = ends.answer;
-    let ends = ends.finish(to_panel).with(held);
-    ends.view(to_pump);
+    let ends = ends.finish().with(held);
+    ends.view();
     ends.turned().show();
 }

@@ -1,25 +1,37 @@
 // The link at work: what one end answers is carried to the other.
 use crate::calls;
+use crate::calls::After;
+use crate::calls::Memory;
+use crate::texts;
 use lines::Line;
 use link::Answer;
 use link::End;
 
-// The two ends, seen from the one that sends, and what the last call answered.
+// The two ends, seen from the one that sends: what the last call answered, and the two regions of shared memory, the one that it sends in
+// and the one that comes back.
 pub struct Ends {
     pub answer: Answer,
     pub from: End,
     pub to: End,
+    pub region: Memory,
+    pub back: Memory,
 }
 
 impl Ends {
+    pub fn new(from: End, to: End) -> Ends {
+        Ends {
+            answer: Answer::Accepted,
+            from,
+            to,
+            region: [0; 2048],
+            back: [0; 2048],
+        }
+    }
+
     // The blocks of the direction, as the sender's table has them and as the receiver's has them.
     pub fn show(self) {
-        let sent = self.from.sent;
-        let held = self.to.held;
-        let line = Line::picture().end_name(self.from.initiator);
-        let line = line.table(sent, self.from.tx.count).text(b"  ");
-        let line = line.end_name(self.to.initiator);
-        line.table(held, self.to.rx.count).print();
+        let line = texts::sent_blocks(Line::picture(), self.from).text(b"  ");
+        texts::held_blocks(line, self.to).print();
     }
 
     // The other direction: the end that received sends.
@@ -27,12 +39,20 @@ impl Ends {
         let answer = self.answer;
         let from = self.to;
         let to = self.from;
-        Ends { answer, from, to }
+        let region = self.back;
+        let back = self.region;
+        Ends {
+            answer,
+            from,
+            to,
+            region,
+            back,
+        }
     }
 
     // The direction from the initiator to the follower.
     pub fn from_initiator(self) -> Ends {
-        if self.from.initiator {
+        if self.from.numbers.initiator {
             self
         } else {
             self.turned()
@@ -43,36 +63,50 @@ impl Ends {
     pub fn with(self, answer: Answer) -> Ends {
         let from = self.from;
         let to = self.to;
-        Ends { answer, from, to }
+        let region = self.region;
+        let back = self.back;
+        Ends {
+            answer,
+            from,
+            to,
+            region,
+            back,
+        }
     }
 
-    // As a call of the sender left it.
-    fn left(self, answer: Answer, from: End) -> Ends {
-        let to = self.to;
-        Ends { answer, from, to }
+    // After a call of the sender, and after one of the receiver.
+    fn with_sender(mut self, c: After) -> Ends {
+        let answer = c.answer;
+        let from = c.end;
+        self.from = from;
+        self.with(answer)
+    }
+
+    fn with_receiver(mut self, c: After) -> Ends {
+        let answer = c.answer;
+        let to = c.end;
+        self.to = to;
+        self.with(answer)
     }
 
     // The sender starts its ring, and the receiver pulls the start content.
-    pub fn start(self, region: &mut [u8]) -> Ends {
-        let mut space = [0u8; 16];
-        let buffer: &mut [u8] = &mut space;
-        let from = calls::start(self.from, region);
-        let pulled = calls::pull(self.to, region, buffer);
-        let answer = self.answer;
+    pub fn start(mut self) -> Ends {
+        let from = calls::start(self.from, &mut self.region);
+        let pulled = calls::pull(self.to, &mut self.region);
         let to = pulled.end;
-        Ends { answer, from, to }
+        self.from = from;
+        self.to = to;
+        self
     }
 
     // The sender registers an endpoint.
-    pub fn register(self, region: &mut [u8], name: &[u8]) -> Ends {
-        let c = calls::register(self.from, region, name);
-        let answer = c.answer;
-        let from = c.end;
-        self.left(answer, from)
+    pub fn register(mut self, name: &[u8]) -> Ends {
+        let c = calls::register(self.from, &mut self.region, name);
+        self.with_sender(c)
     }
 
     // Takes the answered control message over the ring in the sender's region: push, pull, arrival.
-    pub fn carry(self, region: &mut [u8]) -> Ends {
+    pub fn carry(mut self) -> Ends {
         let a = self.answer;
         let Answer::Control {
             kind,
@@ -83,57 +117,62 @@ impl Ends {
             return self;
         };
         let message = [kind, address, block];
-        let mut space = [0u8; 16];
-        let buffer: &mut [u8] = &mut space;
-        let from = calls::push(self.from, region, &message);
-        let pulled = calls::pull(self.to, region, buffer);
-        let arrived = calls::arrival_of(pulled, region, buffer);
-        let answer = arrived.answer;
-        let to = arrived.end;
-        Ends { answer, from, to }
+        let from = calls::push(self.from, &mut self.region, &message);
+        self.from = from;
+        self.arrive()
+    }
+
+    // The receiver pulls what was pushed, and it arrives.
+    fn arrive(mut self) -> Ends {
+        let pulled = calls::pull(self.to, &mut self.region);
+        let c = calls::arrival_of(pulled, &self.region);
+        self.with_receiver(c)
     }
 
     // Reserves the blocks of k bytes, fills their room with the text, and sends it.
-    pub fn send(self, region: &mut [u8], k: u32, text: &[u8]) -> Ends {
-        let reserved = calls::reserve(self.from, k);
-        let run = reserved.answer;
-        let Answer::Run { start, count: _ } = run else {
-            return self;
+    pub fn send(self, k: u32, text: &[u8]) -> Ends {
+        let ends = self.with_sender(calls::reserve(self.from, k));
+        let a = ends.answer;
+        let Answer::Run { start, count: _ } = a else {
+            return ends;
         };
-        let from = reserved.end;
-        self.left(run, from).show();
-        calls::fill(from, region, start, text);
-        let k = calls::short(text.len());
-        let sent = calls::send(from, region, start, first_address(from), k);
-        let answer = sent.answer;
-        let from = sent.end;
-        let ends = self.left(answer, from);
+        ends.show();
+        let ends = ends.send_from(start, text);
         ends.show();
         ends
     }
 
+    // Fills the room of the reservation that starts there, and sends it to the first endpoint.
+    fn send_from(mut self, start: u32, text: &[u8]) -> Ends {
+        calls::fill(self.from, &mut self.region, start, text);
+        let k = texts::short(text.len());
+        let address = first_address(self.from);
+        let c = calls::send(self.from, &mut self.region, start, address, k);
+        self.with_sender(c)
+    }
+
     // The receiver's look at the message that was delivered.
-    pub fn view(self, region: &[u8]) {
+    pub fn view(self) {
         let a = self.answer;
         if let Answer::Delivered {
             address: _,
             block,
             length: _,
         } = a {
-            calls::view(self.to, region, block as u32);
+            calls::view(self.to, &self.region, block as u32);
         }
     }
 
     // Carries the answered control message over, shows what became of the blocks, and looks at what was delivered.
-    pub fn announce(self, region: &mut [u8]) -> Ends {
-        let ends = self.carry(region);
+    pub fn announce(self) -> Ends {
+        let ends = self.carry();
         ends.show();
-        ends.view(region);
+        ends.view();
         ends
     }
 
     // The receiver is done with the message that was delivered, and its release goes back in the receiver's own region.
-    pub fn finish(self, back: &mut [u8]) -> Ends {
+    pub fn finish(self) -> Ends {
         let a = self.answer;
         let Answer::Delivered {
             address: _,
@@ -143,20 +182,16 @@ impl Ends {
         else {
             return self;
         };
-        let done = calls::done(self.to, block as u32);
-        let answer = done.answer;
-        let to = done.end;
-        let from = self.from;
-        let ends = Ends { answer, from, to };
+        let ends = self.with_receiver(calls::done(self.to, block as u32));
         ends.show();
-        let ends = ends.turned().carry(back).turned();
+        let ends = ends.turned().carry().turned();
         ends.show();
         ends
     }
 
     // A message that comes and goes.
-    pub fn pass(self, region: &mut [u8], back: &mut [u8], k: u32, text: &[u8]) -> Ends {
-        self.send(region, k, text).announce(region).finish(back)
+    pub fn pass(self, k: u32, text: &[u8]) -> Ends {
+        self.send(k, text).announce().finish()
     }
 }
 

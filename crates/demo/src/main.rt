@@ -2,22 +2,14 @@
 mod acts;
 mod calls;
 mod ends;
+mod texts;
 
 fn main() {
-    // The two regions of shared memory, by who receives in them.
-    let mut pump = [0u8; 2048];
-    let mut panel = [0u8; 2048];
-    let to_pump: &mut [u8] = &mut pump;
-    let to_panel: &mut [u8] = &mut panel;
     acts::legend();
-    let ends = acts::open(to_pump, to_panel);
-    let ends = acts::bind(ends, to_pump, to_panel);
-    let ends = acts::hold(ends, to_pump);
+    let ends = acts::hold(acts::bind(acts::open()));
     let held = ends.answer;
-    let ends = acts::ask(ends, to_pump, to_panel);
-    let ends = acts::reply(ends, to_pump, to_panel).with(held);
-    ends.view(to_pump);
-    let ends = acts::spoil(ends, to_pump);
-    let ends = acts::mend(ends, to_pump, to_panel).with(held);
-    acts::release(ends, to_pump, to_panel);
+    let ends = acts::reply(acts::ask(ends)).with(held);
+    ends.view();
+    let ends = acts::mend(acts::spoil(ends)).with(held);
+    acts::release(ends);
 }

@@ -1,3 +1,4 @@
+pub mod Changes
 pub mod GoodNames
 pub mod Tests
 pub mod Unused

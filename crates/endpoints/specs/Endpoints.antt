@@ -20,6 +20,10 @@ use Rattle.endpoints.specs.declared.EndpointTest.{EndpointTest}
 use Rattle.endpoints.specs.declared.EndpointTest.the-variants.{BoundAt, WaitingAt, Uses, Registered, WaitingFor, Clashes}
 use Rattle.endpoints.specs.declared.BindingTest.{BindingTest}
 use Rattle.endpoints.specs.declared.BindingTest.the-variants.{Free, Holds}
+use Rattle.blocks.specs.declared.Found.{Found}
+use Rattle.blocks.specs.declared.Found.the-variants.{Nowhere, At}
+use Rattle.endpoints.specs.declared.EndpointChange.{EndpointChange}
+use Rattle.endpoints.specs.declared.BindingChange.{BindingChange}
 
 abbrev pub noEndpoint : Endpoint
 noEndpoint = record { stage = Unused; address = 0; name = replicate 32 0 }
@@ -122,3 +126,15 @@ abbrev pub bindingTest : BindingTest → ℕ → ℕ → List ℕ → Binding �
 bindingTest Free c a m b = not (b .stored)
 bindingTest Holds c a m b = all (b .stored ∷ same (b .name) m ∷ lies c (b .start) (b .count) ∷ [])
 bindingTest BindingTest.Clashes c a m b = b .stored && (eqb (b .address) a || same (b .name) m)
+
+-- ---- what a call changes, as the code hands it back: x at the place that was found
+
+abbrev pub putAt {ℓ} : {A : Type ℓ} → Found → A → List A → List A
+putAt Nowhere x l = l
+putAt (At i) x l = set l i x
+
+abbrev pub endpointsAfter : EndpointChange → List Endpoint → List Endpoint
+endpointsAfter c ps = putAt (c .place) (c .endpoint) ps
+
+abbrev pub bindingsAfter : BindingChange → List Binding → List Binding
+bindingsAfter c bs = putAt (c .place) (c .binding) bs

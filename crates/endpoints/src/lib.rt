@@ -1,8 +1,7 @@
 // Endpoints and stored bindings, by name and address: eight of each, searched from the lowest place.
 ghost use mathlib.Core.Path.{_≡_};
-ghost use Rattle.wire.specs.Bytes.{bytes};
 ghost use Rattle.blocks.specs.Tables.{searchOf, FoundBelow};
-ghost use Rattle.endpoints.specs.Endpoints.{isUnused, isWaiting, isBound, endpointTest, bindingTest, waitingAt, boundNow, IsAddressee, endpointAt, bindingAt, someEndpoint, someBinding, unusedFrom, goodName};
+ghost use Rattle.endpoints.specs.Endpoints.{isUnused, isWaiting, isBound, endpointTest, bindingTest, waitingAt, boundNow, endpointsAfter, bindingsAfter, IsAddressee, endpointAt, bindingAt, someEndpoint, someBinding, unusedFrom, goodName};
 use blocks::Found;
 
 pub enum Stage {
@@ -45,6 +44,18 @@ pub enum BindingTest {
     Clashes,
 }
 
+// What a call changes of the endpoints: the one that stands at the place now, if any does.
+pub struct EndpointChange {
+    pub place: Found,
+    pub endpoint: Endpoint,
+}
+
+// And of the stored bindings.
+pub struct BindingChange {
+    pub place: Found,
+    pub binding: Binding,
+}
+
 // Whom an address reaches: its byte, where a bound endpoint has it.
 pub enum Addressee {
     Nobody,
@@ -66,8 +77,22 @@ pub const NO_BINDING: Binding = Binding {
     name: [0; 32],
 };
 
+// No change.
+pub const SAME_ENDPOINTS: EndpointChange = EndpointChange {
+    place: Found::Nowhere,
+    endpoint: NO_ENDPOINT,
+};
+
+pub const SAME_BINDINGS: BindingChange = BindingChange {
+    place: Found::Nowhere,
+    binding: NO_BINDING,
+};
+
 // The number of places for endpoints, and of places for bindings.
 pub const PLACES: usize = 8;
+
+// The bytes of a name at most.
+pub const LONGEST_NAME: usize = 31;
 
 // ---- names
 
@@ -199,28 +224,46 @@ pub fn unused_address(endpoints: [Endpoint; PLACES]) -> u8
     a
 }
 
-// The endpoints with the one that waits at this address bound.
-pub fn bind_waiting(mut endpoints: [Endpoint; PLACES], address: u8) -> [Endpoint; PLACES]
-    ensures { λ r. ⌜ r ≡ boundNow endpoints address (endpointAt (waitingAt address) endpoints) ⌝ }
+// What binding the endpoint that waits at this address changes.
+pub fn bind_waiting(endpoints: [Endpoint; PLACES], address: u8) -> EndpointChange
+    ensures { λ r. ⌜ endpointsAfter r endpoints ≡ boundNow endpoints address (endpointAt (waitingAt address) endpoints) ⌝ }
 {
     let nameless = [0u8; 1];
-    match find(
+    let place = find(
         endpoints,
         EndpointTest::WaitingAt,
         address as u32,
         &nameless,
-    ) {
-        Found::Nowhere => endpoints,
+    );
+    match place {
+        Found::Nowhere => SAME_ENDPOINTS,
         Found::At(i) => {
             let p = endpoints[i];
             let name = p.name;
-            endpoints[i] = Endpoint {
+            let endpoint = Endpoint {
                 stage: Stage::Bound,
                 address,
                 name,
             };
-            endpoints
+            EndpointChange { place, endpoint }
         }
+    }
+}
+
+impl EndpointChange {
+    // The endpoints with this change.
+    pub fn applied(self, mut endpoints: [Endpoint; PLACES]) -> [Endpoint; PLACES]
+        ensures { λ r. ⌜ r ≡ endpointsAfter self endpoints ⌝ }
+    {
+        let place = self.place;
+        let Found::At(i) = place else {
+            return endpoints;
+        };
+        if i < PLACES {
+            let endpoint = self.endpoint;
+            endpoints[i] = endpoint;
+        }
+        endpoints
     }
 }
 
@@ -274,5 +317,22 @@ pub fn has_binding(
     match find_binding(bindings, test, count, address, name) {
         Found::Nowhere => false,
         Found::At(_) => true,
+    }
+}
+
+impl BindingChange {
+    // The bindings with this change.
+    pub fn applied(self, mut bindings: [Binding; PLACES]) -> [Binding; PLACES]
+        ensures { λ r. ⌜ r ≡ bindingsAfter self bindings ⌝ }
+    {
+        let place = self.place;
+        let Found::At(i) = place else {
+            return bindings;
+        };
+        if i < PLACES {
+            let binding = self.binding;
+            bindings[i] = binding;
+        }
+        bindings
     }
 }

@@ -1,5 +1,5 @@
 // A line of output, put together before it is written. What does not fit is left out.
-use blocks::Entry;
+ghost use Prim.Native.Nat.{_≤_};
 use blocks::Use;
 use refusal::Refusal;
 
@@ -108,9 +108,13 @@ impl Line {
     }
 
     // A count with its unit, which is in the plural but for one.
-    pub fn counted(self, n: u32, unit: &[u8]) -> Line {
+    fn counted(self, n: u32, unit: &[u8]) -> Line {
         let line = self.number(n).text(b" ").text(unit);
         if n == 1 { line } else { line.text(b"s") }
+    }
+
+    pub fn bytes(self, n: u32) -> Line {
+        self.counted(n, b"byte")
     }
 
     pub fn print(self) {
@@ -149,11 +153,11 @@ impl Line {
             .text(b"address ")
             .number(wire::wide(address));
         let line = line.text(b", block ").number(wire::wide(block));
-        line.text(b", ").counted(length, b"byte")
+        line.text(b", ").bytes(length)
     }
 
     pub fn packet(self, length: u32, index: u32) -> Line {
-        let line = self.to(VALUES).counted(length, b"byte");
+        let line = self.to(VALUES).bytes(length);
         line.text(b", own index ").number(index)
     }
 
@@ -202,13 +206,15 @@ impl Line {
 
     // ---- tables
 
-    // A letter for each of the first `count` blocks.
-    pub fn table(self, entries: [Entry; blocks::BLOCKS], count: u16) -> Line {
+    // A letter for each of the first `count` blocks of the table at this base.
+    pub fn table(self, t: &[u8; tables::BYTES], base: usize, count: u16) -> Line
+        requires { ⌜ base ≤ 1568 ⌝ }
+    {
         let mut line = self.text(b" [");
         let end = wire::least(count as usize, blocks::BLOCKS);
         let mut i = 0;
         while i < end {
-            let x = entries[i];
+            let x = tables::entry_at(&t[..], base, i);
             let u = x.usage;
             line = line.byte(letter(u));
             i += 1;

@@ -1,6 +1,7 @@
-pub mod OpenSays
+pub mod Clauses
+pub mod OpeningCall
 pub mod RingCalls
 pub mod MessageCalls
-pub mod OpeningCall
 pub mod ArrivalCalls
 pub mod RegisterCalls
+pub mod SameEnds

@@ -1,150 +1,99 @@
--- The calls on messages: each way out of a rule, by the facts that the code has there.
-use Prim.Native.Nat.{ℕ, _+_, _-_, _*_, _≤_, _<_}
+-- The end of the parts, where a table's bytes have changed; and the ways out of the calls on messages.
+use Prim.Native.Nat.{ℕ, _+_, _-_, _*_, _≤_}
 use mathlib.Core.Bool.{Bool, true, false}
-use mathlib.Core.Path.{_≡_, refl}
+use mathlib.Core.Path.{_≡_, refl, sym, ap, _∙_}
 use mathlib.Core.List.{List}
 use native.Mathlib.Omega.{arith}
-use native.Mathlib.Nat.{mul-le-mul-right}
 use lib.ListN.{take, drop}
-use borrow.Author.Tests.{le-leb, lt-leb}
 use Rattle.wire.specs.Bytes.{littleEndian, straight, writes, wrote}
-use Rattle.blocks.specs.Search.{nowhere, foundAt}
-use Rattle.blocks.specs.Tables.{entry, starts, startsData, freed, taken, blocksFor, freeRun}
-use Rattle.blocks.specs.declared.Use.{Use}
+use Rattle.refusal.specs.Numbers.{numberOf}
+use Rattle.refusal.specs.declared.Refusal.{Refusal}
+use Rattle.blocks.specs.Tables.{entry, starts, startsData, freed, taken}
 use Rattle.blocks.specs.declared.Use.the-variants.{Reserved, SentData}
 use Rattle.blocks.specs.declared.Entry.{Entry}
-use Rattle.blocks.proofs.Tables.{Run, run-of, data-run}
-use Rattle.endpoints.specs.Endpoints.{boundAt, someEndpoint}
-use Rattle.icbmsg.specs.Outcome.{nothing, aRun, control, Outcome, refused, accepted, written, placed, withoutWrites, check}
-use Rattle.icbmsg.specs.Ends.{isOpen, whole, blockAt, withSent, withHeld}
+use Rattle.endpoints.specs.declared.Endpoint.{Endpoint}
+use Rattle.endpoints.specs.declared.Binding.{Binding}
+use Rattle.tables.specs.Compact.{tableOf, Changed}
+use Rattle.icbmsg.specs.Outcome.{nothing, aRun, control, Outcome, refused, accepted, placed, withoutWrites, check}
+use Rattle.icbmsg.specs.Ends.{isOpen, whole, blockAt, changed, withSent, withHeld}
 use Rattle.icbmsg.specs.Messages.{reserveOf, roomOf, sendOf, dropOf, viewOf, doneOf}
-use Rattle.link.proofs.OpenSays.{Sound, open-says, run-inside, whole-says}
-use Rattle.icbmsg.specs.declared.Region.{Region}
+use Rattle.icbmsg.specs.declared.Numbers.{Numbers}
 use Rattle.icbmsg.specs.End.{End}
+use Rattle.checks.specs.Parts.{joined}
+use Rattle.checks.specs.Decisions.{ReservesAs, SendAs}
+use Rattle.checks.specs.declared.Space.{Space}
+use Rattle.checks.specs.declared.Sending.{Sending}
+use Rattle.checks.proofs.Runs.{room-part, view-part}
 
--- a refusal says its number, and writes nothing
-pub quiet : (o : Outcome) (e : End) (n : ℕ) (s : List ℕ) → o ≡ refused e n → (refused e n ≡ withoutWrites o) × (s ≡ wrote s (o .tx))
-unfolding wrote
-quiet o e n s h = (rw h, rw h)
+module _ (n : Numbers) (t t′ : List ℕ) (l : List Entry) (ps : List Endpoint) (bs : List Binding) where
+  pub joined-sent : Changed t t′ 0 l → joined n t′ ps bs ≡ withSent (joined n t ps bs) l
+  unfolding changed
+  joined-sent h = rw (h .table, h .upper 1568 (omega arith))
+
+  pub joined-held : Changed t t′ 1568 l → joined n t′ ps bs ≡ withHeld (joined n t ps bs) l
+  unfolding changed
+  joined-held h = rw (h .table, h .lower 0 (omega arith))
 
 -- ---- reserve
 
-module _ (e : End) (k : ℕ) where
-  pub reserve-6 : isOpen e ≡ false → refused e 6 ≡ reserveOf e k
-  unfolding reserveOf
-  reserve-6 h = rw h
+module _ (n : Numbers) (t : List ℕ) (k : ℕ) (r : Space) (h : ReservesAs r n t k) where
+  pub space-refused : (x : Refusal) → r ≡ Space.Refused x → (ps : List Endpoint) (bs : List Binding) → refused (joined n t ps bs) (numberOf x) ≡ reserveOf (joined n t ps bs) k
+  space-refused x q ps bs = let w = rw q at h in sym (w ps bs)
 
-  module _ (h : isOpen e ≡ true) (m : ℕ) (q : m ≡ blocksFor (e .tx .size) k) where
-    pub reserve-23 : e .tx .count < m → refused e 23 ≡ reserveOf e k
-    unfolding reserveOf
-    reserve-23 l = rw (h, ← q, lt-leb m (e .tx .count) l)
+  module _ (s m : ℕ) (q : r ≡ Space.At s m) where
+    pub space-at : (1 ≤ m) × (s + m ≤ 256)
+    space-at = let w = rw q at h in (w .1, w .2)
 
-    module _ (l : m ≤ e .tx .count) where
-      pub reserve-24 : freeRun (e .tx .count) (e .sent) m ≡ nowhere → refused e 24 ≡ reserveOf e k
-      unfolding reserveOf
-      reserve-24 f = rw (h, ← q, le-leb m (e .tx .count) l, f)
-
-      pub reserve-ok : (s : ℕ) (t : List Entry) → freeRun (e .tx .count) (e .sent) m ≡ foundAt s → t ≡ taken (e .sent) Reserved s m 0 0 →
-          accepted (withSent e t) (aRun s m) ≡ reserveOf e k
-      unfolding reserveOf
-      reserve-ok s t f p = rw (h, ← q, le-leb m (e .tx .count) l, f, ← q, p)
+    pub reserved : (t′ : List ℕ) → Changed t t′ 0 (taken (tableOf t 0) Reserved s m 0 0) → (ps : List Endpoint) (bs : List Binding) → accepted (joined n t′ ps bs) (aRun s m) ≡ reserveOf (joined n t ps bs) k
+    reserved t′ c ps bs =
+        let w = rw q at h in
+        ap (λ (e : End). accepted e (aRun s m)) (joined-sent n t t′ (taken (tableOf t 0) Reserved s m 0 0) ps bs c) ∙ sym (w .3 ps bs ∙ rw (← (w .0)))
 
 -- ---- drop and done
 
-module _ (e : End) (s : ℕ) where
-  pub drop-6 : isOpen e ≡ false → refused e 6 ≡ dropOf e s
+module _ (n : Numbers) (t : List ℕ) (s : ℕ) (ps : List Endpoint) (bs : List Binding) (x : Bool) (q : x ≡ isOpen (joined n t ps bs)) where
+  pub drop-refused : (y : Refusal) → ((e : End) (o : Outcome) → check x 6 e (check (starts Reserved (n .tx .count) (tableOf t 0) s) 25 e o) ≡ refused e (numberOf y)) →
+      refused (joined n t ps bs) (numberOf y) ≡ dropOf (joined n t ps bs) s
   unfolding dropOf
-  drop-6 h = rw h
+  drop-refused y h = sym (rw (← q) (h (joined n t ps bs) _))
 
-  pub done-6 : isOpen e ≡ false → refused e 6 ≡ doneOf e s
+  pub dropped : (z : Entry) (t′ : List ℕ) → (x ≡ true) × (starts Reserved (n .tx .count) (tableOf t 0) s ≡ true) × (z ≡ entry (tableOf t 0) s) → Changed t t′ 0 (freed (tableOf t 0) s (z .count)) →
+      accepted (joined n t′ ps bs) nothing ≡ dropOf (joined n t ps bs) s
+  unfolding dropOf
+  dropped z t′ h c = rw (← q, h .0, h .1, ← (h .2)) (ap (λ (e : End). accepted e nothing) (joined-sent n t t′ (freed (tableOf t 0) s (z .count)) ps bs c))
+
+  pub done-refused : (y : Refusal) → ((e : End) (o : Outcome) → check x 6 e (check (startsData (n .rx .count) (n .rx .size) (tableOf t 1568) s) 25 e o) ≡ refused e (numberOf y)) →
+      refused (joined n t ps bs) (numberOf y) ≡ doneOf (joined n t ps bs) s
   unfolding doneOf
-  done-6 h = rw h
+  done-refused y h = sym (rw (← q) (h (joined n t ps bs) _))
 
-  module _ (h : isOpen e ≡ true) where
-    pub drop-25 : starts Reserved (e .tx .count) (e .sent) s ≡ false → refused e 25 ≡ dropOf e s
-    unfolding dropOf
-    drop-25 k = rw (h, k)
-
-    pub drop-ok : (x : Entry) (t : List Entry) → (x ≡ entry (e .sent) s) × (starts Reserved (e .tx .count) (e .sent) s ≡ true) → t ≡ freed (e .sent) s (x .count) →
-        accepted (withSent e t) nothing ≡ dropOf e s
-    unfolding dropOf
-    drop-ok x t k p = rw (h, k .1, p, k .0)
-
-    pub done-25 : startsData (e .rx .count) (e .rx .size) (e .held) s ≡ false → refused e 25 ≡ doneOf e s
-    unfolding doneOf
-    done-25 k = rw (h, k)
-
-    pub done-ok : (x : Entry) (t : List Entry) → (x ≡ entry (e .held) s) × (startsData (e .rx .count) (e .rx .size) (e .held) s ≡ true) → t ≡ freed (e .held) s (x .count) →
-        accepted (withHeld e t) (control 1 0 s) ≡ doneOf e s
-    unfolding doneOf
-    done-ok x t k p = rw (h, k .1, p, k .0)
+  pub ended : (z : Entry) (t′ : List ℕ) → (x ≡ true) × (startsData (n .rx .count) (n .rx .size) (tableOf t 1568) s ≡ true) × (z ≡ entry (tableOf t 1568) s) →
+      Changed t t′ 1568 (freed (tableOf t 1568) s (z .count)) → accepted (joined n t′ ps bs) (control 1 0 s) ≡ doneOf (joined n t ps bs) s
+  unfolding doneOf
+  ended z t′ h c = rw (← q, h .0, h .1, ← (h .2)) (ap (λ (e : End). accepted e (control 1 0 s)) (joined-held n t t′ (freed (tableOf t 1568) s (z .count)) ps bs c))
 
 -- ---- rooms and views
 
-module _ (e : End) (n s : ℕ) where
-  pub room-6 : whole e (e .tx) n ≡ false → refused e 6 ≡ roomOf e n s
+module _ (n : Numbers) (t : List ℕ) (l s : ℕ) (ps : List Endpoint) (bs : List Binding) (x : Bool) where
+  pub room-refused : x ≡ whole (joined n t ps bs) (n .tx) l → (y : Refusal) → ((e : End) (o : Outcome) → check x 6 e (check (starts Reserved (n .tx .count) (tableOf t 0) s) 25 e o) ≡ refused e (numberOf y)) →
+      refused (joined n t ps bs) (numberOf y) ≡ roomOf (joined n t ps bs) l s
   unfolding roomOf
-  room-6 h = rw h
+  room-refused q y h = sym (rw (← q) (h (joined n t ps bs) _))
 
-  pub view-6 : whole e (e .rx) n ≡ false → refused e 6 ≡ viewOf e n s
+  pub room-placed : x ≡ whole (joined n t ps bs) (n .tx) l → (z : Entry) → (x ≡ true) × (starts Reserved (n .tx .count) (tableOf t 0) s ≡ true) × (z ≡ entry (tableOf t 0) s) →
+      placed (joined n t ps bs) (blockAt (n .tx) s + 4) (z .count * n .tx .size - 4) ≡ roomOf (joined n t ps bs) l s
+  unfolding roomOf
+  room-placed q z h = rw (← q, h .0, h .1, ← (h .2))
+
+  pub view-refused : x ≡ whole (joined n t ps bs) (n .rx) l → (y : Refusal) → ((e : End) (o : Outcome) → check x 6 e (check (startsData (n .rx .count) (n .rx .size) (tableOf t 1568) s) 25 e o) ≡ refused e (numberOf y)) →
+      refused (joined n t ps bs) (numberOf y) ≡ viewOf (joined n t ps bs) l s
   unfolding viewOf
-  view-6 h = rw h
+  view-refused q y h = sym (rw (← q) (h (joined n t ps bs) _))
 
-  module _ (h : whole e (e .tx) n ≡ true) where
-    pub room-25 : starts Reserved (e .tx .count) (e .sent) s ≡ false → refused e 25 ≡ roomOf e n s
-    unfolding roomOf
-    room-25 k = rw (h, k)
-
-    pub room-ok : (x : Entry) → (x ≡ entry (e .sent) s) × (starts Reserved (e .tx .count) (e .sent) s ≡ true) →
-        placed e (blockAt (e .tx) s + 4) (x .count * e .tx .size - 4) ≡ roomOf e n s
-    unfolding roomOf
-    room-ok x k = rw (h, k .1, k .0)
-
-  module _ (h : whole e (e .rx) n ≡ true) where
-    pub view-25 : startsData (e .rx .count) (e .rx .size) (e .held) s ≡ false → refused e 25 ≡ viewOf e n s
-    unfolding viewOf
-    view-25 k = rw (h, k)
-
-    pub view-ok : (x : Entry) → (x ≡ entry (e .held) s) × (startsData (e .rx .count) (e .rx .size) (e .held) s ≡ true) →
-        placed e (blockAt (e .rx) s + 4) (x .length) ≡ viewOf e n s
-    unfolding viewOf
-    view-ok x k = rw (h, k .1, k .0)
-
--- all that a run's part of the n lent bytes needs
-pub record PartIn (g : Region) (s m n : ℕ) : Type 0 where
-  pub low : s < 256
-  pub few : m ≤ 256
-  pub inside : g .blocks + s * g .size + m * g .size ≤ n
-  pub most : n ≤ 1048576
-  pub four : 4 ≤ m * g .size
-  pub product : s * g .size ≤ n
-  pub size : g .size ≤ n
-
-run-part : (a : ℕ) (g : Region) (u : Use) (t : List Entry) (s n : ℕ) → Sound a g → Run (g .count) t s u → n ≡ g .bytes → PartIn g s (entry t s .count) n
-run-part a g u t s n o r q =
-    let i : g .blocks + s * g .size + entry t s .count * g .size ≤ g .bytes = run-inside a g s (entry t s .count) o (r .ends) in
-    let f : 1 * g .size ≤ entry t s .count * g .size = mul-le-mul-right (g .size) (r .one) in
-    record {
-      low = omega (arith, r .below, o .few);
-      few = omega (arith, r .ends, o .few);
-      inside = omega arith;
-      most = omega (arith, o .bytes);
-      four = omega (arith, o .size);
-      product = omega arith;
-      size = omega arith;
-    }
-
-pub room-part : (e : End) (n s : ℕ) → whole e (e .tx) n ≡ true → starts Reserved (e .tx .count) (e .sent) s ≡ true → PartIn (e .tx) s (entry (e .sent) s .count) n
-room-part e n s h k =
-    let w = whole-says e (e .tx) n h in
-    run-part (e .align) (e .tx) Reserved (e .sent) s n (open-says e (w .is-open) .tx) (run-of Reserved (e .tx .count) (e .sent) s k) (w .lent)
-
-pub view-part : (e : End) (n s : ℕ) → whole e (e .rx) n ≡ true → startsData (e .rx .count) (e .rx .size) (e .held) s ≡ true →
-    PartIn (e .rx) s (entry (e .held) s .count) n × (entry (e .held) s .length + 4 ≤ entry (e .held) s .count * e .rx .size)
-view-part e n s h k =
-    let w = whole-says e (e .rx) n h in
-    let r = data-run (e .rx .count) (e .rx .size) (e .held) s k in
-    (run-part (e .align) (e .rx) _ (e .held) s n (open-says e (w .is-open) .rx) (r .0) (w .lent), r .1)
+  pub view-placed : x ≡ whole (joined n t ps bs) (n .rx) l → (z : Entry) → (x ≡ true) × (startsData (n .rx .count) (n .rx .size) (tableOf t 1568) s ≡ true) × (z ≡ entry (tableOf t 1568) s) →
+      placed (joined n t ps bs) (blockAt (n .rx) s + 4) (z .length) ≡ viewOf (joined n t ps bs) l s
+  unfolding viewOf
+  view-placed q z h = rw (← q, h .0, h .1, ← (h .2))
 
 -- a place lies inside the n bytes that are lent
 place-inside : (e : End) (n b p x : ℕ) (w k : Bool) → (w ≡ true → k ≡ true → p + x ≤ n) → let o : Outcome = check w 6 e (check k b e (placed e p x)) in o .begin + o .size ≤ n
@@ -165,43 +114,28 @@ view-inside e n s =
     (λ w k. let p = view-part e n s w k in omega (arith, p .0 .inside, p .1))
 
 -- the part that the code cuts out at b, of z bytes, is the one at the place o; q is where the slice begins
-pub this-part : (o : Outcome) (b z q : ℕ) (l : List ℕ) → b ≡ o .begin → z ≡ o .size → (take (b + z - b) (drop b l) ≡ take (o .size) (drop (o .begin) l)) × (b + q ≡ q + o .begin)
-this-part o b z q l h k =
-    let e : b + z - b ≡ o .size = omega arith in
-    (rw (e, h) refl, omega arith)
+module _ (o : Outcome) (b z : ℕ) (h : b ≡ o .begin) (k : z ≡ o .size) where
+  pub this-part : (l : List ℕ) → take (b + z - b) (drop b l) ≡ take (o .size) (drop (o .begin) l)
+  this-part l = let e : b + z - b ≡ o .size = omega arith in rw (e, h) refl
+
+  pub part-begins : (q : ℕ) → b + q ≡ q + o .begin
+  part-begins q = omega arith
 
 -- ---- send
 
-module _ (e : End) (n s a k : ℕ) where
-  pub send-6 : whole e (e .tx) n ≡ false → sendOf e n s a k ≡ refused e 6
-  unfolding sendOf
-  send-6 h = rw h
+module _ (n : Numbers) (t : List ℕ) (ps : List Endpoint) (l s a k : ℕ) (r : Sending) (bs : List Binding) (h : SendAs r (joined n t ps bs) l s a k) where
+  pub send-refused : (x : Refusal) (tx : List ℕ) → r ≡ Sending.Refused x →
+      (refused (joined n t ps bs) (numberOf x) ≡ withoutWrites (sendOf (joined n t ps bs) l s a k)) × (tx ≡ wrote tx (sendOf (joined n t ps bs) l s a k .tx))
+  unfolding wrote
+  send-refused x tx q = let w = rw q at h in (rw w, rw w)
 
-  module _ (h : whole e (e .tx) n ≡ true) where
-    pub send-25 : starts Reserved (e .tx .count) (e .sent) s ≡ false → sendOf e n s a k ≡ refused e 25
-    unfolding sendOf
-    send-25 p = rw (h, p)
+  module _ (b c m : ℕ) (q : r ≡ Sending.Fits b c m) where
+    pub send-fits : SendAs (Sending.Fits b c m) (joined n t ps bs) l s a k
+    send-fits = rw q at h
 
-    module _ (p : starts Reserved (e .tx .count) (e .sent) s ≡ true) where
-      pub send-15 : someEndpoint (boundAt a) (e .endpoints) ≡ false → sendOf e n s a k ≡ refused e 15
-      unfolding sendOf
-      send-15 q = rw (h, p, q)
-
-      module _ (q : someEndpoint (boundAt a) (e .endpoints) ≡ true) where
-        pub send-23 : entry (e .sent) s .count * e .tx .size < k + 4 → sendOf e n s a k ≡ refused e 23
-        unfolding sendOf
-        send-23 l = rw (h, p, q, lt-leb (k + 4) (entry (e .sent) s .count * e .tx .size) l)
-
-        pub send-ok : k + 4 ≤ entry (e .sent) s .count * e .tx .size →
-            sendOf e n s a k
-            ≡ written (withSent e (taken (freed (e .sent) s (entry (e .sent) s .count)) SentData s (blocksFor (e .tx .size) k) a k)) (control 0 a s)
-            (writes (straight (blockAt (e .tx) s)) (littleEndian 4 k))
-        unfolding sendOf
-        send-ok l = rw (h, p, q, le-leb (k + 4) (entry (e .sent) s .count * e .tx .size) l)
-
--- the tables and bytes that the code made of an accepted send
-pub sent-now : (e : End) (o : Outcome) (s a k c m b : ℕ) (f t : List Entry) (bs bs′ : List ℕ) →
-    o ≡ written (withSent e (taken (freed (e .sent) s c) SentData s m a k)) (control 0 a s) (writes (straight (blockAt (e .tx) s)) (littleEndian 4 k)) →
-    b ≡ a → f ≡ freed (e .sent) s c → t ≡ taken f SentData s m b k → bs′ ≡ wrote bs (writes (straight (blockAt (e .tx) s)) (littleEndian 4 k)) →
-    (accepted (withSent e t) (control 0 b s) ≡ withoutWrites o) × (bs′ ≡ wrote bs (o .tx))
-sent-now e o s a k c m b f t bs bs′ h i j l p = (rw (h, l, j, i), rw (h, p))
+    pub sent : (t₁ t₂ tx tx′ : List ℕ) → Changed t t₁ 0 (freed (tableOf t 0) s c) → Changed t₁ t₂ 0 (taken (tableOf t₁ 0) SentData s m b k) → tx′ ≡ wrote tx (writes (straight (blockAt (n .tx) s)) (littleEndian 4 k)) →
+        (accepted (joined n t₂ ps bs) (control 0 b s) ≡ withoutWrites (sendOf (joined n t ps bs) l s a k)) × (tx′ ≡ wrote tx (sendOf (joined n t ps bs) l s a k .tx))
+    unfolding changed
+    sent t₁ t₂ tx tx′ x y z =
+        let w = send-fits in
+        (rw (w .0, y .table, y .upper 1568 (omega arith), x .table, x .upper 1568 (omega arith), w .1), rw (w .0, z))

@@ -1,71 +1,100 @@
--- Register: each way out of its rule, by the facts that the code has there.
-use Prim.Native.Nat.{ℕ, _+_, _≤_, _<_}
-use mathlib.Core.Bool.{true, false, not, _&&_}
-use mathlib.Core.Path.{_≡_, refl}
+-- Register: each way out of its rule, by what was decided and what the code made of the tables.
+use Prim.Native.Nat.{ℕ, _+_, _*_, _≤_, _<_}
+use mathlib.Core.Bool.{Bool, true, false}
+use mathlib.Core.Path.{_≡_, refl, sym, ap, _∙_}
 use mathlib.Core.List.{List, [], _∷_, _++_}
 use native.Mathlib.Omega.{arith}
-use lib.Dec.{leb, ltb, eqb}
+use lib.Dec.{leb, ltb}
 use lib.ListN.{length, getD, set}
-use borrow.Author.Tests.{le-leb, lt-leb, leb-true}
+use borrow.Author.Tests.{leb-true}
+use Rattle.wire.specs.Choice.{pick}
 use Rattle.wire.specs.Bytes.{littleEndian, straight, writes, wrote, same}
-use Rattle.wire.proofs.Choices.{both}
-use Rattle.blocks.specs.Search.{Search, nowhere, foundAt, any}
-use Rattle.blocks.specs.Tables.{freed, taken, blocksFor, freeRun, lies}
+use Rattle.refusal.specs.Numbers.{numberOf}
+use Rattle.refusal.specs.declared.Refusal.{Refusal}
+use Rattle.blocks.specs.Names.{paddedName}
+use Rattle.blocks.specs.Search.{Search, nowhere, foundAt}
+use Rattle.blocks.specs.Tables.{freed, taken, blocksFor, lies}
 use Rattle.blocks.specs.declared.Use.the-variants.{SentBinding}
-use Rattle.blocks.specs.declared.Entry.{Entry}
+use Rattle.blocks.proofs.LeastBlocks.{blocks-hold}
 use Rattle.blocks.proofs.Tables.{every}
 use Rattle.blocks.proofs.Search.{first-at}
 use Rattle.blocks.proofs.Loops.{in-list}
-use Rattle.endpoints.specs.Endpoints.{noBinding, isUnused, at, registered, holds, endpointAt, bindingAt, someEndpoint, unusedFrom, goodName}
-use Rattle.blocks.specs.Names.{paddedName}
+use Rattle.endpoints.specs.Endpoints.{noBinding, holds, bindingAt, bindingTest, unusedFrom}
+use Rattle.endpoints.specs.declared.Endpoint.{Endpoint}
 use Rattle.endpoints.specs.declared.Binding.{Binding}
+use Rattle.endpoints.specs.declared.BindingTest.the-variants.{Holds}
 use Rattle.endpoints.specs.declared.Stage.the-variants.{Waiting, Bound}
+use Rattle.tables.specs.Compact.{tableOf, Changed}
 use Rattle.icbmsg.specs.Outcome.{nothing, control, Outcome, refused, accepted, withoutWrites}
-use Rattle.icbmsg.specs.Ends.{whole, blockAt, changed}
+use Rattle.icbmsg.specs.Ends.{openNumbers, isOpen, whole, blockAt, changed}
 use Rattle.icbmsg.specs.Registering.{announcement, followed, initiates, registerOf}
+use Rattle.icbmsg.specs.declared.Numbers.{Numbers}
 use Rattle.icbmsg.specs.End.{End}
+use Rattle.checks.specs.Parts.{joined}
+use Rattle.checks.specs.Decisions.{FitAs, PlaceAs}
+use Rattle.checks.specs.declared.registrations.Place.{Place}
+use Rattle.checks.specs.declared.Space.{Space}
+use Rattle.checks.proofs.OpenSays.{Sound, is-open, open-says, run-inside, whole-says}
+use Rattle.checks.proofs.Runs.{fit-at}
 
--- a good name has 1 to 31 bytes
-pub good-length : (n : List ℕ) → goodName 31 n ≡ true → (1 ≤ length n) × (length n ≤ 31)
-unfolding goodName
-good-length n h =
-    let a = both (leb 1 (length n) && leb (length n) 31) (not (any (λ b. eqb b 0) n)) h in
-    let b = both (leb 1 (length n)) (leb (length n) 31) (a .0) in
-    (leb-true 1 (length n) (b .0), leb-true (length n) 31 (b .1))
+-- a refusal says its number, and writes nothing
+pub quiet : (o : Outcome) (e : End) (n : ℕ) (s : List ℕ) → o ≡ refused e n → (refused e n ≡ withoutWrites o) × (s ≡ wrote s (o .tx))
+unfolding wrote
+quiet o e n s h = (rw h, rw h)
 
--- ---- the initiator
+-- what the numbers of an open end say of the transmit region, and of the receive region
+pub tx-sound : (n : Numbers) → openNumbers (n .align) (n .tx) (n .rx) (n .write) (n .read) ≡ true → Sound (n .align) (n .tx) × Sound (n .align) (n .rx)
+tx-sound n h = let e : End = joined n [] [] [] in let o = open-says e (is-open e _ refl h) in (o .tx, o .rx)
 
-module _ (e : End) (n : List ℕ) (i m : ℕ) (q : m ≡ blocksFor (e .tx .size) (length n + 1)) where
-  pub initiate-23 : e .tx .count < m → initiates e n i ≡ refused e 23
+-- ---- the initiator: the name, at place i
+
+module _ (n : Numbers) (t : List ℕ) (name : List ℕ) (r : Space) (h : FitAs r (n .tx) (tableOf t 0) (length name + 1)) where
+  pub initiate-refused : (x : Refusal) → r ≡ Space.Refused x → (ps : List Endpoint) (bs : List Binding) (i : ℕ) → initiates (joined n t ps bs) name i ≡ refused (joined n t ps bs) (numberOf x)
   unfolding initiates
-  initiate-23 l = rw (← q, lt-leb m (e .tx .count) l)
+  initiate-refused x q ps bs i = let w = rw q at h in w (joined n t ps bs) _
 
-  module _ (l : m ≤ e .tx .count) where
-    pub initiate-24 : freeRun (e .tx .count) (e .sent) m ≡ nowhere → initiates e n i ≡ refused e 24
+  module _ (s m : ℕ) (q : r ≡ Space.At s m) where
+    pub initiate-fits : (m ≡ blocksFor (n .tx .size) (length name + 1)) × (1 ≤ m) × (s + m ≤ n .tx .count)
+    initiate-fits = let w = rw q at h in (w .0, w .3, w .4)
+
+    announces : (ps : List Endpoint) (bs : List Binding) (i : ℕ) → initiates (joined n t ps bs) name i ≡ announcement (joined n t ps bs) name i (unusedFrom 8 0 ps) s
     unfolding initiates
-    initiate-24 f = rw (← q, le-leb m (e .tx .count) l, f)
+    announces ps bs i = let w = rw q at h in fit-at (n .tx) (tableOf t 0) (length name + 1) m (w .0) (joined n t ps bs) _ s (w .1) (w .2)
 
-    pub initiate-ok : (s : ℕ) → freeRun (e .tx .count) (e .sent) m ≡ foundAt s → initiates e n i ≡ announcement e n i (unusedFrom 8 0 (e .endpoints)) s
-    unfolding initiates
-    initiate-ok s f = rw (← q, le-leb m (e .tx .count) l, f, ← q)
+    pub announced : (ps : List Endpoint) (bs : List Binding) (i a : ℕ) (t′ kept tx tx′ : List ℕ) → a ≡ unusedFrom 8 0 ps → Changed t t′ 0 (taken (tableOf t 0) SentBinding s m a (length name + 1)) → kept ≡ paddedName name →
+        tx′ ≡ wrote tx (writes (straight (blockAt (n .tx) s)) (littleEndian 4 (length name + 1) ++ name ++ (0 ∷ []))) →
+        (accepted (joined n t′ (set ps i (record { stage = Waiting; address = a; name = kept })) bs) (control 2 a s) ≡ withoutWrites (initiates (joined n t ps bs) name i))
+        × (tx′ ≡ wrote tx (initiates (joined n t ps bs) name i .tx))
+    unfolding changed
+    announced ps bs i a t′ kept tx tx′ u c k l =
+        let w = initiate-fits in
+        (rw (announces ps bs i, ← (w .0), c .table, c .upper 1568 (omega arith), u, k), rw (announces ps bs i, l))
 
-pub announced : (e : End) (n : List ℕ) (i m s a : ℕ) (o : Outcome) (t : List Entry) (kept bs bs′ : List ℕ) →
-    m ≡ blocksFor (e .tx .size) (length n + 1) → o ≡ announcement e n i (unusedFrom 8 0 (e .endpoints)) s → a ≡ unusedFrom 8 0 (e .endpoints) → t ≡ taken (e .sent) SentBinding s m a (length n + 1) → kept ≡ paddedName n →
-    bs′ ≡ wrote bs (writes (straight (blockAt (e .tx) s)) (littleEndian 4 (length n + 1) ++ n ++ (0 ∷ []))) →
-    (accepted (changed e (e .write) (e .read) t (e .held) (set (e .endpoints) i (record { stage = Waiting; address = a; name = kept })) (e .bindings)) (control 2 a s) ≡ withoutWrites o)
-    × (bs′ ≡ wrote bs (o .tx))
-announced e n i m s a o t kept bs bs′ q h u j k l = (rw (h, ← q, j, u, k), rw (h, l))
+-- the message and its zero lie in its blocks
+pub announcement-inside : (n : Numbers) (k s m l : ℕ) → Sound (n .align) (n .tx) → m ≡ blocksFor (n .tx .size) k → s + m ≤ n .tx .count → l ≡ n .tx .bytes →
+    (n .tx .blocks + s * n .tx .size + k + 4 ≤ l) × (l ≤ 1048576)
+announcement-inside n k s m l o q h p =
+    let z : 1 ≤ n .tx .size = omega (arith, o .size) in
+    let i = run-inside (n .align) (n .tx) s m o h in
+    let f : k + 4 ≤ m * n .tx .size = rw q (blocks-hold (n .tx .size) k z) in
+    (omega (arith, i, f), omega (arith, o .bytes))
 
 -- ---- the follower
 
-module _ (e : End) (n : List ℕ) (i : ℕ) (q : Search) (kept : List ℕ) (k : kept ≡ paddedName n) where
-  pub follow-waits : q ≡ nowhere → accepted (changed e (e .write) (e .read) (e .sent) (e .held) (set (e .endpoints) i (record { stage = Waiting; address = 0; name = kept })) (e .bindings)) nothing ≡ followed e n i q
-  follow-waits h = rw (h, k)
+module _ (n : Numbers) (t : List ℕ) (bs : List Binding) (kept : List ℕ) (i : ℕ) (name : List ℕ) (ps : List Endpoint) (k : kept ≡ paddedName name) where
+  found : (q : Search) → bindingAt (bindingTest Holds (n .rx .count) 0 kept) bs ≡ q → bindingAt (holds (n .rx .count) name) bs ≡ q
+  found q h = sym (ap (λ (m : List ℕ). bindingAt (bindingTest Holds (n .rx .count) 0 m) bs) k) ∙ h
 
-  pub follow-binds : (j : ℕ) (b : Binding) (t : List Entry) → q ≡ foundAt j → b ≡ getD (e .bindings) j noBinding → t ≡ freed (e .held) (b .start) (b .count) →
-      accepted (changed e (e .write) (e .read) (e .sent) t (set (e .endpoints) i (record { stage = Bound; address = b .address; name = kept })) (set (e .bindings) j noBinding)) (control 3 (b .address) (b .start))
-      ≡ followed e n i q
-  follow-binds j b t h p l = rw (h, k, l, p)
+  pub follow-waits : bindingAt (bindingTest Holds (n .rx .count) 0 kept) bs ≡ nowhere →
+      accepted (joined n t (set ps i (record { stage = Waiting; address = 0; name = kept })) bs) nothing ≡ followed (joined n t ps bs) name i (bindingAt (holds (n .rx .count) name) bs)
+  unfolding changed
+  follow-waits h = rw (found nowhere h, k)
+
+  pub follow-binds : (j : ℕ) (b : Binding) (t′ : List ℕ) → bindingAt (bindingTest Holds (n .rx .count) 0 kept) bs ≡ foundAt j → b ≡ getD bs j noBinding → Changed t t′ 1568 (freed (tableOf t 1568) (b .start) (b .count)) →
+      accepted (joined n t′ (set ps i (record { stage = Bound; address = b .address; name = kept })) (set bs j noBinding)) (control 3 (b .address) (b .start))
+      ≡ followed (joined n t ps bs) name i (bindingAt (holds (n .rx .count) name) bs)
+  unfolding changed
+  follow-binds j b t′ h p c = rw (found (foundAt j) h, k, c .table, c .lower 0 (omega arith), p)
 
 -- a follower writes nothing
 pub followed-quiet : (e : End) (n : List ℕ) (i : ℕ) (q : Search) (o : Outcome) (s : List ℕ) → o ≡ followed e n i q → (followed e n i q ≡ withoutWrites o) × (s ≡ wrote s (o .tx))
@@ -73,46 +102,43 @@ unfolding wrote
 followed-quiet e n i nowhere o s h = (rw h, rw h)
 followed-quiet e n i (foundAt j) o s h = (rw h, rw h)
 
--- what a stored binding of the name says of its blocks, at place j; d stands beyond the bindings
-pub holds-says : (bs : List Binding) (c : ℕ) (n : List ℕ) (j : ℕ) (d : Binding) → bindingAt (holds c n) bs ≡ foundAt j → j < length bs → c ≤ 256 →
+-- what a stored binding of the kept name says of its blocks, at place j; d stands beyond the bindings
+pub holds-says : (bs : List Binding) (c a : ℕ) (kept : List ℕ) (j : ℕ) (d : Binding) → bindingAt (bindingTest Holds c a kept) bs ≡ foundAt j → j < length bs → c ≤ 256 →
     (getD bs j d ≡ getD bs j noBinding) × (getD bs j d .start < 256) × (getD bs j d .start + getD bs j d .count ≤ 256)
-holds-says bs c n j d h l f =
-    let w = first-at (holds c n) noBinding bs 8 0 j h in
+holds-says bs c a kept j d h l f =
+    let w = first-at (bindingTest Holds c a kept) noBinding bs 8 0 j h in
     let b : Binding = getD bs j noBinding in
-    let z = every (b .stored ∷ same (b .name) (paddedName n) ∷ lies c (b .start) (b .count) ∷ []) (w .0) in
+    let z = every (b .stored ∷ same (b .name) kept ∷ lies c (b .start) (b .count) ∷ []) (w .0) in
     let y = every (ltb (b .start) c ∷ leb 1 (b .count) ∷ leb (b .start + b .count) c ∷ []) (z .1 .1 .0) in
     let s = leb-true 1 (b .count) (y .1 .0) in
     let t = leb-true (b .start + b .count) c (y .1 .1 .0) in
     let q = in-list bs j d noBinding l in
     rw q (refl, omega arith, omega arith)
 
--- ---- register
+-- ---- register, by the place that was decided
 
-module _ (e : End) (l : ℕ) (n : List ℕ) where
-  pub register-6 : whole e (e .tx) l ≡ false → registerOf e l n ≡ refused e 6
-  unfolding registerOf
-  register-6 h = rw h
+module _ (p : Place) (e : End) (l : ℕ) (n kept : List ℕ) (h : PlaceAs p e l n kept) where
+  pub place-refused : (x : Refusal) → p ≡ Place.Refused x → registerOf e l n ≡ refused e (numberOf x)
+  place-refused x q = rw q at h
 
-  module _ (h : whole e (e .tx) l ≡ true) where
-    pub register-20 : goodName 31 n ≡ false → registerOf e l n ≡ refused e 20
-    unfolding registerOf
-    register-20 k = rw (h, k)
+  pub place-at : (i : ℕ) → p ≡ Place.At i → PlaceAs (Place.At i) e l n kept
+  place-at i q = rw q at h
 
-    module _ (k : goodName 31 n ≡ true) where
-      pub register-21 : someEndpoint (registered n) (e .endpoints) ≡ true → registerOf e l n ≡ refused e 21
-      unfolding registerOf
-      register-21 p = rw (h, k, p)
+pub whole-numbers : (n : Numbers) (t : List ℕ) (ps : List Endpoint) (bs : List Binding) (l : ℕ) → whole (joined n t ps bs) (n .tx) l ≡ true →
+    (openNumbers (n .align) (n .tx) (n .rx) (n .write) (n .read) ≡ true) × (l ≡ n .tx .bytes)
+unfolding isOpen
+whole-numbers n t ps bs l h = let w = whole-says (joined n t ps bs) (n .tx) l h in (w .is-open, w .lent)
 
-      module _ (p : someEndpoint (registered n) (e .endpoints) ≡ false) where
-        pub register-22 : endpointAt (at isUnused) (e .endpoints) ≡ nowhere → registerOf e l n ≡ refused e 22
-        unfolding registerOf
-        register-22 q = rw (h, k, p, q)
+module _ (e : End) (l : ℕ) (n : List ℕ) (i : ℕ) (q : registerOf e l n ≡ pick (e .initiator) (initiates e n i) (followed e n i (bindingAt (holds (e .rx .count) n) (e .bindings)))) where
+  by-role : (b : Bool) → e .initiator ≡ b → registerOf e l n ≡ pick b (initiates e n i) (followed e n i (bindingAt (holds (e .rx .count) n) (e .bindings)))
+  by-role b h = q ∙ ap (λ (b : Bool). pick b (initiates e n i) (followed e n i (bindingAt (holds (e .rx .count) n) (e .bindings)))) h
 
-        module _ (i : ℕ) (q : endpointAt (at isUnused) (e .endpoints) ≡ foundAt i) where
-          pub register-initiates : e .initiator ≡ true → registerOf e l n ≡ initiates e n i
-          unfolding registerOf
-          register-initiates r = rw (h, k, p, q, r)
+  pub registers-first : e .initiator ≡ true → (o : Outcome) (s s′ : List ℕ) → o ≡ withoutWrites (initiates e n i) → s′ ≡ wrote s (initiates e n i .tx) →
+      (o ≡ withoutWrites (registerOf e l n)) × (s′ ≡ wrote s (registerOf e l n .tx))
+  registers-first h o s s′ k m = let z = by-role true h in (k ∙ ap withoutWrites (sym z), m ∙ ap (λ (x : Outcome). wrote s (x .tx)) (sym z))
 
-          pub register-follows : e .initiator ≡ false → registerOf e l n ≡ followed e n i (bindingAt (holds (e .rx .count) n) (e .bindings))
-          unfolding registerOf
-          register-follows r = rw (h, k, p, q, r)
+  pub registers-later : e .initiator ≡ false → (o : Outcome) (s : List ℕ) → o ≡ followed e n i (bindingAt (holds (e .rx .count) n) (e .bindings)) →
+      (o ≡ withoutWrites (registerOf e l n)) × (s ≡ wrote s (registerOf e l n .tx))
+  registers-later h o s k =
+      let r = followed-quiet e n i (bindingAt (holds (e .rx .count) n) (e .bindings)) (registerOf e l n) s (by-role false h) in
+      (k ∙ r .0, r .1)

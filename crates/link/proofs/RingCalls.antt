@@ -11,7 +11,12 @@ use Rattle.icmsg.specs.Rules.{Outcome as RingOutcome, Answer, answerNumber, ref
 use Rattle.icbmsg.specs.Outcome.{aLength, Outcome, ringRefused, withoutWrites}
 use Rattle.icbmsg.specs.Ends.{whole, changed, withWrite, withRead}
 use Rattle.icbmsg.specs.Rings.{pushOutcome, pullOutcome, pushed, pulled, pullRule}
-use Rattle.link.specs.Answers.{packetNumber, packetGiven, lengthOf, indexOf, ringAnswered}
+use Rattle.link.specs.Answers.{packetNumber, packetGiven, lengthOf, indexOf, ringAnswered, ringCalledOf}
+use Rattle.link.specs.declared.RingCalled.{RingCalled}
+use Rattle.checks.specs.Parts.{joined}
+use Rattle.endpoints.specs.declared.Endpoint.{Endpoint}
+use Rattle.endpoints.specs.declared.Binding.{Binding}
+use Rattle.icbmsg.specs.declared.Numbers.{Numbers}
 use Rattle.link.specs.declared.PacketAnswer.{PacketAnswer}
 use Rattle.icbmsg.proofs.RulesRead.{pull-answer}
 use Rattle.icbmsg.specs.End.{End}
@@ -59,3 +64,8 @@ pull-quiet e o s b h = (rw h, (rw h, rw h))
 -- a pull's rule as a plain equation on the bytes r
 pub pull-6 : (e : End) (r : List ℕ) (b : ℕ) → whole e (e .rx) (length r) ≡ false → answer (pullRule e (length r) b) r ≡ ringRefused e 6
 pull-6 e r b h = pull-answer e (length r) b r ∙ rw h
+
+-- what the code hands back of a refusal
+pub ring-refused : (r : RingCalled) (n : Numbers) (t : List ℕ) (ps : List Endpoint) (bs : List Binding) → (packetNumber (r .answer) ≡ 6) × (packetGiven (r .answer) ≡ aLength 0) × (r .numbers ≡ n) →
+    ringCalledOf r t ps bs ≡ ringRefused (joined n t ps bs) 6
+ring-refused r n t ps bs h = rw (h .0, h .1, h .2)

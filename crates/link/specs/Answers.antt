@@ -1,32 +1,26 @@
 -- The code's end as the rules' end; number of each answer, and what comes with it; and the outcome of a call but for what it writes.
 use Prim.Native.Nat.{ℕ}
-use mathlib.Core.List.{[]}
+use mathlib.Core.List.{List, []}
 use Rattle.refusal.specs.Numbers.{numberOf}
 use Rattle.icmsg.specs.Rules.{Answer as RingAnswer, refused as ringNo, accepted as ringYes}
+use Rattle.endpoints.specs.Endpoints.{endpointsAfter, bindingsAfter}
+use Rattle.endpoints.specs.declared.Endpoint.{Endpoint}
+use Rattle.endpoints.specs.declared.Binding.{Binding}
 use Rattle.icbmsg.specs.Outcome.{Given, nothing, aLength, aRun, control, delivery, Outcome}
 use Rattle.icbmsg.specs.End.{End}
+use Rattle.icbmsg.specs.declared.Numbers.{Numbers}
+use Rattle.checks.specs.Parts.{joined}
 use Rattle.link.specs.declared.Answer.{Answer}
 use Rattle.link.specs.declared.Answer.the-variants.{Accepted, Run, Control, Delivered, Refused}
 use Rattle.link.specs.declared.PacketAnswer.{PacketAnswer}
+use Rattle.link.specs.declared.Opened.{Opened}
 use Rattle.link.specs.declared.Called.{Called}
 use Rattle.link.specs.declared.RingCalled.{RingCalled}
 use Rattle.link.specs.declared.Place.{Place}
 use Rattle.link.specs.declared.End.{End as CodeEnd}
 
 abbrev pub endOf : CodeEnd → End
-endOf e =
-    record {
-      initiator = e .initiator;
-      align = e .align;
-      tx = e .tx;
-      rx = e .rx;
-      write = e .write;
-      read = e .read;
-      sent = e .sent;
-      held = e .held;
-      endpoints = e .endpoints;
-      bindings = e .bindings;
-    }
+endOf e = joined (e .numbers) (e .tables) (e .endpoints) (e .bindings)
 
 abbrev pub answerNumber : Answer → ℕ
 answerNumber Accepted = 0
@@ -46,8 +40,12 @@ answerGiven (Refused x) = nothing
 abbrev pub answered : Answer → End → Outcome
 answered a e = record { number = answerNumber a; given = answerGiven a; begin = 0; size = 0; tx = []; rx = []; buffer = []; next = e }
 
-abbrev pub outcomeOf : Called → Outcome
+abbrev pub outcomeOf : Opened → Outcome
 outcomeOf c = answered (c .answer) (endOf (c .end))
+
+-- of an arrival or a registration, on an end of these parts but for what it hands back
+abbrev pub calledOf : Called → Numbers → List ℕ → List Endpoint → List Binding → Outcome
+calledOf c n t ps bs = answered (c .answer) (joined n t (endpointsAfter (c .endpoint) ps) (bindingsAfter (c .binding) bs))
 
 -- of start, push and pull: the length, 0 on a refusal
 abbrev pub packetNumber : PacketAnswer → ℕ
@@ -70,8 +68,8 @@ indexOf own (ringYes k i) = i
 abbrev pub ringAnswered : PacketAnswer → End → Outcome
 ringAnswered a e = record { number = packetNumber a; given = packetGiven a; begin = 0; size = 0; tx = []; rx = []; buffer = []; next = e }
 
-abbrev pub ringOutcomeOf : RingCalled → Outcome
-ringOutcomeOf c = ringAnswered (c .answer) (endOf (c .end))
+abbrev pub ringCalledOf : RingCalled → List ℕ → List Endpoint → List Binding → Outcome
+ringCalledOf c t ps bs = ringAnswered (c .answer) (joined (c .numbers) t ps bs)
 
 -- of a place, which leaves the end e
 abbrev pub placeOf : Place → End → Outcome

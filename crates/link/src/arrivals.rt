@@ -1,283 +1,198 @@
 // Arriving control messages (01, "Arriving control messages" and "Binding").
 ghost use mathlib.Core.Bool.{true};
 ghost use mathlib.Core.Path.{_≡_};
-ghost use Prim.Native.Nat.{_+_, _≤_};
 ghost use lib.ListN.{length};
-ghost use Rattle.wire.specs.Bytes.{straight, bytes};
-ghost use Rattle.wire.specs.Reads.{answer};
-ghost use Rattle.link.specs.Answers.{outcomeOf, endOf};
-ghost use Rattle.icbmsg.specs.Ends.{isOpen};
-ghost use Rattle.icbmsg.specs.Arrivals.{dataRule, releaseOf, boundRule, boundNamed, storedAt, releasedBoundOf, arrivalRule};
+ghost use Rattle.wire.specs.Reads.{answer as answerTo};
+ghost use Rattle.checks.specs.Parts.{joined};
+ghost use Rattle.link.specs.Answers.{calledOf};
+ghost use Rattle.link.specs.Parts.{OnTables, OnEndpoints, Unbinds, SaysOnly};
+ghost use Rattle.icbmsg.specs.Ends.{openNumbers};
+ghost use Rattle.icbmsg.specs.Arrivals.{dataRule, releaseOf, boundRule, arrivalRule};
 use crate::Answer;
 use crate::Called;
 use crate::End;
 use blocks::Found;
-use blocks::RunAt;
 use blocks::Use;
-use checks::Measured;
-use endpoints::Addressee;
+use checks::Run;
+use checks::arrivals::Binds;
+use checks::arrivals::Measured;
 use endpoints::Binding;
-use endpoints::BindingTest;
+use endpoints::BindingChange;
 use endpoints::Endpoint;
-use endpoints::EndpointTest;
+use endpoints::EndpointChange;
 use endpoints::Stage;
 use icbmsg::Control;
+use icbmsg::Numbers;
 use refusal::Refusal;
 
-const LAST_ADDRESS: u8 = 0xFD;
-
-// Where the zero behind a name stands at the latest.
-const NAME_AND_ZERO: usize = End::LONGEST_NAME + 1;
-
-impl End {
-    // Kind 0: a data message has arrived.
-    fn data_sent(mut self, rx: &[u8], address: u8, block: u8) -> Called
-        requires { ⌜ (isOpen (endOf self) ≡ true) × (length (now rx) ≡ self .rx .bytes) ⌝ }
-        ensures { λ r. ⌜ outcomeOf r ≡ answer (dataRule (endOf self) address block) (now (rx .entry)) ⌝ }
-    {
-        if LAST_ADDRESS < address {
-            return Called {
-                answer: Answer::Refused(Refusal::BadAddress),
-                end: self,
-            };
-        }
-        let endpoints = self.endpoints;
-        let Addressee::Bound(_) = endpoints::find_addressee(endpoints, address as u32) else {
-            return Called {
-                answer: Answer::Refused(Refusal::NotBound),
-                end: self,
-            };
-        };
-        let held = self.held;
-        match checks::measure(rx, self.rx, held, block) {
-            Measured::Refused(x) => Called {
-                answer: Answer::Refused(x),
-                end: self,
-            },
-            Measured::Fits { length, count } => {
-                let s = block as usize;
-                let taken = blocks::take_run(held, Use::ReceivedData, s, count, address, length);
-                self.held = taken;
-                Called {
-                    answer: Answer::Delivered {
-                        address,
-                        block,
-                        length,
-                    },
-                    end: self,
-                }
+// Kind 0: a data message has arrived.
+fn data_sent(
+    n: Numbers,
+    t: &mut [u8],
+    endpoints: [Endpoint; End::ENDPOINTS],
+    rx: &[u8],
+    address: u8,
+    block: u8,
+) -> Answer
+    requires { ⌜ (openNumbers (n .align) (n .tx) (n .rx) (n .write) (n .read) ≡ true) × (length (now rx) ≡ n .rx .bytes) × (length (now t) ≡ 3136) ⌝ }
+    ensures { λ r. ⌜ OnEndpoints (λ e. answerTo (dataRule e address block) (now (rx .entry))) n (now (t .entry)) endpoints r (now (t .exit)) ⌝ }
+{
+    match checks::arrivals::data_sent(n, t, endpoints, rx, address, block) {
+        Measured::Refused(x) => Answer::Refused(x),
+        Measured::Fits { length, count } => {
+            let s = block as usize;
+            tables::take_run(
+                t,
+                tables::HELD,
+                Use::ReceivedData,
+                s,
+                count,
+                address,
+                length,
+            );
+            Answer::Delivered {
+                address,
+                block,
+                length,
             }
         }
     }
+}
 
-    // Kind 1: the partner is done with a data message. As many blocks are freed as were recorded when it was sent.
-    fn data_released(mut self, block: u8) -> Called
-        requires { ⌜ isOpen (endOf self) ≡ true ⌝ }
-        ensures { λ r. ⌜ outcomeOf r ≡ releaseOf (endOf self) block ⌝ }
-    {
-        if self.tx.count <= block as u16 {
-            return Called {
-                answer: Answer::Refused(Refusal::BadBlock),
-                end: self,
-            };
-        }
-        let sent = self.sent;
-        match blocks::run_at(sent, Use::SentData, self.tx.count, block as u32) {
-            RunAt::Nothing => Called {
-                answer: Answer::Refused(Refusal::NoMessage),
-                end: self,
-            },
-            RunAt::Live(x) => {
-                let freed = blocks::free_run(sent, block as usize, x.count as usize);
-                self.sent = freed;
-                Called {
-                    answer: Answer::Accepted,
-                    end: self,
-                }
-            }
+// Kind 1: the partner is done with a data message. As many blocks are freed as were recorded when it was sent.
+fn data_released(n: Numbers, t: &mut [u8], block: u8) -> Answer
+    requires { ⌜ (openNumbers (n .align) (n .tx) (n .rx) (n .write) (n .read) ≡ true) × (length (now t) ≡ 3136) ⌝ }
+    ensures { λ r. ⌜ OnTables (λ e. releaseOf e block) n (now (t .entry)) r (now (t .exit)) ⌝ }
+{
+    match checks::arrivals::data_released(n, t, block) {
+        Run::Refused(x) => Answer::Refused(x),
+        Run::Live(x) => {
+            tables::free_run(t, tables::SENT, block as usize, x.count as usize);
+            Answer::Accepted
         }
     }
+}
 
-    // A binding whose name is the n bytes at p of the receive region: binds a waiting endpoint of the name, or is stored.
-    fn bind(mut self, rx: &[u8], p: usize, n: usize, address: u8, block: u8, count: usize) -> Called
-        requires { ⌜ (isOpen (endOf self) ≡ true) × (p + n ≤ length (now rx)) × (n ≤ 32) × (1 ≤ count) × (block + count ≤ 256) ⌝ }
-        ensures { λ r. ⌜ outcomeOf r ≡ boundNamed (endOf self) address block count (bytes (now (rx .entry)) (straight p) n) ⌝ }
-    {
-        if n < 1 {
-            return Called {
-                answer: Answer::Refused(Refusal::BadName),
-                end: self,
-            };
-        }
-        let kept = blocks::framing::padded(rx, p, n);
-        let a = address as u32;
-        let endpoints = self.endpoints;
-        let bindings = self.bindings;
-        if endpoints::has(endpoints, EndpointTest::Clashes, a, &kept)
-            | endpoints::has_binding(bindings, BindingTest::Clashes, 0, address, &kept)
-        {
-            return Called {
-                answer: Answer::Refused(Refusal::NameTaken),
-                end: self,
-            };
-        }
-        match endpoints::find(endpoints, EndpointTest::WaitingFor, 0, &kept) {
-            Found::At(i) => {
-                self.endpoints[i] = Endpoint {
+// Kind 2: the partner has bound an endpoint.
+fn binding_sent(
+    n: Numbers,
+    t: &mut [u8],
+    endpoints: [Endpoint; End::ENDPOINTS],
+    bindings: [Binding; End::BINDINGS],
+    rx: &[u8],
+    address: u8,
+    block: u8,
+) -> Called
+    requires { ⌜ (openNumbers (n .align) (n .tx) (n .rx) (n .write) (n .read) ≡ true) × (length (now rx) ≡ n .rx .bytes) × (length (now t) ≡ 3136) ⌝ }
+    ensures { λ r. ⌜ calledOf r n (now (t .exit)) endpoints bindings ≡ answerTo (boundRule (joined n (now (t .entry)) endpoints bindings) address block) (now (rx .entry)) ⌝ }
+{
+    let named = checks::arrivals::binding_sent(n, t, endpoints, bindings, rx, address, block);
+    let name = named.name;
+    let binds = named.binds;
+    match binds {
+        Binds::Refused(x) => called(Answer::Refused(x)),
+        Binds::Waiting(i) => Called {
+            answer: Answer::Control {
+                kind: 3,
+                address,
+                block,
+            },
+            endpoint: EndpointChange {
+                place: Found::At(i),
+                endpoint: Endpoint {
                     stage: Stage::Bound,
                     address,
-                    name: kept,
-                };
-                Called {
-                    answer: Answer::Control {
-                        kind: 3,
+                    name,
+                },
+            },
+            binding: endpoints::SAME_BINDINGS,
+        },
+        Binds::Stored(j) => {
+            let s = block as usize;
+            let count = named.count;
+            tables::take_run(t, tables::HELD, Use::StoredBinding, s, count, address, 0);
+            Called {
+                answer: Answer::Accepted,
+                endpoint: endpoints::SAME_ENDPOINTS,
+                binding: BindingChange {
+                    place: Found::At(j),
+                    binding: Binding {
+                        stored: true,
                         address,
-                        block,
+                        start: block as u16,
+                        count: count as u16,
+                        name,
                     },
-                    end: self,
-                }
-            }
-            Found::Nowhere => self.store(kept, address, block, count),
-        }
-    }
-
-    // Stores a binding whose endpoint is not registered, and holds its blocks.
-    fn store(mut self, kept: [u8; 32], address: u8, block: u8, count: usize) -> Called
-        requires { ⌜ (1 ≤ count) × (block + count ≤ 256) ⌝ }
-        ensures { λ r. ⌜ outcomeOf r ≡ storedAt (endOf self) address block count kept ⌝ }
-    {
-        let bindings = self.bindings;
-        match endpoints::find_binding(bindings, BindingTest::Free, 0, 0, &kept) {
-            Found::Nowhere => Called {
-                answer: Answer::Refused(Refusal::NoPlace),
-                end: self,
-            },
-            Found::At(j) => {
-                let s = block as usize;
-                let held = self.held;
-                let taken = blocks::take_run(held, Use::StoredBinding, s, count, address, 0);
-                self.held = taken;
-                self.bindings[j] = Binding {
-                    stored: true,
-                    address,
-                    start: block as u16,
-                    count: count as u16,
-                    name: kept,
-                };
-                Called {
-                    answer: Answer::Accepted,
-                    end: self,
-                }
+                },
             }
         }
     }
+}
 
-    // Kind 2: the partner has bound an endpoint.
-    fn binding_sent(self, rx: &[u8], address: u8, block: u8) -> Called
-        requires { ⌜ (isOpen (endOf self) ≡ true) × (length (now rx) ≡ self .rx .bytes) ⌝ }
-        ensures { λ r. ⌜ outcomeOf r ≡ answer (boundRule (endOf self) address block) (now (rx .entry)) ⌝ }
-    {
-        if self.initiator {
-            return Called {
-                answer: Answer::Refused(Refusal::NotFollower),
-                end: self,
-            };
-        }
-        if LAST_ADDRESS < address {
-            return Called {
-                answer: Answer::Refused(Refusal::BadAddress),
-                end: self,
-            };
-        }
-        let held = self.held;
-        match checks::measure(rx, self.rx, held, block) {
-            Measured::Refused(x) => Called {
-                answer: Answer::Refused(x),
-                end: self,
-            },
-            Measured::Fits { length, count } => {
-                let p = self.rx.blocks as usize + block as usize * self.rx.size as usize + 4;
-                match blocks::framing::name_length(
-                    rx,
-                    p,
-                    wire::least(length as usize, NAME_AND_ZERO),
-                ) {
-                    Found::Nowhere => Called {
-                        answer: Answer::Refused(Refusal::BadName),
-                        end: self,
-                    },
-                    Found::At(n) => self.bind(rx, p, n, address, block, count),
-                }
+// Kind 3: the partner is done with a binding, and its endpoint is bound.
+fn binding_released(
+    n: Numbers,
+    t: &mut [u8],
+    endpoints: [Endpoint; End::ENDPOINTS],
+    address: u8,
+    block: u8,
+) -> Called
+    requires { ⌜ (openNumbers (n .align) (n .tx) (n .rx) (n .write) (n .read) ≡ true) × (length (now t) ≡ 3136) ⌝ }
+    ensures { λ r. ⌜ Unbinds r n (now (t .entry)) endpoints address block (now (t .exit)) ⌝ }
+{
+    match checks::arrivals::binding_released(n, t, address, block) {
+        Run::Refused(x) => called(Answer::Refused(x)),
+        Run::Live(x) => {
+            tables::free_run(t, tables::SENT, block as usize, x.count as usize);
+            Called {
+                answer: Answer::Accepted,
+                endpoint: endpoints::bind_waiting(endpoints, address),
+                binding: endpoints::SAME_BINDINGS,
             }
         }
     }
+}
 
-    // Kind 3: the partner is done with a binding, and its endpoint is bound.
-    fn binding_released(mut self, address: u8, block: u8) -> Called
-        requires { ⌜ isOpen (endOf self) ≡ true ⌝ }
-        ensures { λ r. ⌜ outcomeOf r ≡ releasedBoundOf (endOf self) address block ⌝ }
-    {
-        if LAST_ADDRESS < address {
-            return Called {
-                answer: Answer::Refused(Refusal::BadAddress),
-                end: self,
-            };
-        }
-        if self.tx.count <= block as u16 {
-            return Called {
-                answer: Answer::Refused(Refusal::BadBlock),
-                end: self,
-            };
-        }
-        let sent = self.sent;
-        let RunAt::Live(x) = blocks::run_at(sent, Use::SentBinding, self.tx.count, block as u32)
-        else {
-            return Called {
-                answer: Answer::Refused(Refusal::NoMessage),
-                end: self,
-            };
-        };
-        if x.address != address {
-            return Called {
-                answer: Answer::Refused(Refusal::NoMessage),
-                end: self,
-            };
-        }
-        let freed = blocks::free_run(sent, block as usize, x.count as usize);
-        self.sent = freed;
-        let endpoints = self.endpoints;
-        let bound = endpoints::bind_waiting(endpoints, address);
-        self.endpoints = bound;
-        Called {
-            answer: Answer::Accepted,
-            end: self,
-        }
+// An answer that changes no endpoint and no binding.
+pub(super) fn called(answer: Answer) -> Called
+    ensures { λ r. ⌜ SaysOnly r answer ⌝ }
+{
+    Called {
+        answer,
+        endpoint: endpoints::SAME_ENDPOINTS,
+        binding: endpoints::SAME_BINDINGS,
     }
+}
 
+impl End {
     // A control message has arrived. Every arrival is lent the whole receive region; only kinds 0 and 2 read in it.
-    pub fn arrival(self, rx: &[u8], message: &[u8]) -> Called
-        ensures { λ r. ⌜ outcomeOf r ≡ answer (arrivalRule (endOf self) (length (now (rx .entry))) (now (message .entry))) (now (rx .entry)) ⌝ }
+    pub fn arrival(
+        numbers: Numbers,
+        endpoints: [Endpoint; End::ENDPOINTS],
+        bindings: [Binding; End::BINDINGS],
+        tables: &mut [u8; End::TABLES],
+        rx: &[u8],
+        message: &[u8],
+    ) -> Called
+        ensures { λ r. ⌜ calledOf r numbers (now (tables .exit)) endpoints bindings ≡ answerTo (arrivalRule (joined numbers (now (tables .entry)) endpoints bindings) (length (now (rx .entry))) (now (message .entry))) (now (rx .entry)) ⌝ }
     {
-        let opened = checks::is_open(self.align, self.tx, self.rx, self.write, self.read);
-        if !(opened & (rx.len() == self.rx.bytes as usize)) {
-            return Called {
-                answer: Answer::Refused(Refusal::WrongRegion),
-                end: self,
-            };
+        let t = &mut tables[..];
+        if !checks::is_whole(numbers, numbers.rx, rx.len()) {
+            return called(Answer::Refused(Refusal::WrongRegion));
         }
-        match checks::decode(message) {
-            Control::TooShort => Called {
-                answer: Answer::Refused(Refusal::TooShort),
-                end: self,
-            },
-            Control::UnknownKind => Called {
-                answer: Answer::Refused(Refusal::UnknownKind),
-                end: self,
-            },
-            Control::DataSent { address, block } => self.data_sent(rx, address, block),
-            Control::DataReleased(block) => self.data_released(block),
-            Control::BindingSent { address, block } => self.binding_sent(rx, address, block),
-            Control::BindingReleased { address, block } => self.binding_released(address, block),
+        match checks::arrivals::decode(message) {
+            Control::TooShort => called(Answer::Refused(Refusal::TooShort)),
+            Control::UnknownKind => called(Answer::Refused(Refusal::UnknownKind)),
+            Control::DataSent { address, block } => {
+                called(data_sent(numbers, t, endpoints, rx, address, block))
+            }
+            Control::DataReleased(block) => called(data_released(numbers, t, block)),
+            Control::BindingSent { address, block } => {
+                binding_sent(numbers, t, endpoints, bindings, rx, address, block)
+            }
+            Control::BindingReleased { address, block } => {
+                binding_released(numbers, t, endpoints, address, block)
+            }
         }
     }
 }

@@ -1,28 +1,23 @@
-// One end of the link, as code: its state, and its calls as methods by value, by family: openings, rings, messages, arrivals,
-// registrations. Each call answers the end that it leaves; a refused call leaves it as it was.
+// One end of the link, as code: its state in four parts, and its calls by family: openings, rings, messages, arrivals, registrations. A call is
+// an associated function on the parts that it needs. The tables are changed in place; what else changes is handed back. A refused call
+// changes nothing.
 mod arrivals;
 mod messages;
 mod openings;
 mod registrations;
 mod rings;
 
-use blocks::Entry;
 use endpoints::Binding;
+use endpoints::BindingChange;
 use endpoints::Endpoint;
-use icbmsg::Region;
+use endpoints::EndpointChange;
+use icbmsg::Numbers;
 use refusal::Refusal;
 
-// One end: its role, the regions, the own indexes of their rings, an entry for each block in each direction, the endpoints and the
-// stored bindings.
+// One end: its numbers, the tables of its transmit and receive blocks, the endpoints and the stored bindings.
 pub struct End {
-    pub initiator: bool,
-    pub align: u16,
-    pub tx: Region,
-    pub rx: Region,
-    pub write: u32,
-    pub read: u32,
-    pub sent: [Entry; End::BLOCKS],
-    pub held: [Entry; End::BLOCKS],
+    pub numbers: Numbers,
+    pub tables: [u8; End::TABLES],
     pub endpoints: [Endpoint; End::ENDPOINTS],
     pub bindings: [Binding; End::BINDINGS],
 }
@@ -40,7 +35,10 @@ impl End {
 
     pub const BINDINGS: usize = endpoints::PLACES;
 
-    pub const LONGEST_NAME: usize = 31;
+    pub const LONGEST_NAME: usize = endpoints::LONGEST_NAME;
+
+    // The bytes of both tables.
+    pub const TABLES: usize = tables::BYTES;
 }
 
 // What a call answers.
@@ -56,7 +54,7 @@ pub enum Answer {
     Refused(Refusal),
 }
 
-// What a ring call answers: the length of the packet's content. The own index is the end's to keep.
+// What a ring call answers: the length of the packet's content. The own index is among the numbers.
 pub enum PacketAnswer {
     Length(u32),
     Refused(Refusal),
@@ -69,14 +67,21 @@ pub struct Place {
     pub size: u32,
 }
 
-// A call's answer, and the end that it leaves.
-pub struct Called {
+// What an opening answers, and the end that it makes.
+pub struct Opened {
     pub answer: Answer,
     pub end: End,
 }
 
-// A ring call's answer, and the end that it leaves.
+// What a ring call answers, and the end's numbers afterwards.
 pub struct RingCalled {
     pub answer: PacketAnswer,
-    pub end: End,
+    pub numbers: Numbers,
+}
+
+// What an arrival or a registration answers, and what it changes of the endpoints and the stored bindings.
+pub struct Called {
+    pub answer: Answer,
+    pub endpoint: EndpointChange,
+    pub binding: BindingChange,
 }

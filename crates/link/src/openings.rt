@@ -5,12 +5,14 @@ ghost use Rattle.refusal.specs.Numbers.{numberOf};
 ghost use Rattle.region.specs.Layout.{outcomeOf as layoutOf};
 ghost use Rattle.region.specs.declared.LayoutAnswer.{LayoutAnswer};
 ghost use Rattle.link.specs.Answers.{endOf, outcomeOf};
+ghost use Rattle.link.specs.SameEnds.{SameEnds};
 ghost use Rattle.icbmsg.specs.Promises.{Promises};
 ghost use Rattle.icbmsg.specs.Opening.{opening, region as regionRule, fresh as freshRule, closedWith};
 use crate::Answer;
-use crate::Called;
 use crate::End;
+use crate::Opened;
 use icbmsg::Bounds;
+use icbmsg::Numbers;
 use icbmsg::Opening;
 use icbmsg::Region;
 use refusal::Refusal;
@@ -47,34 +49,36 @@ impl End {
         ensures { λ r. ⌜ endOf r ≡ freshRule initiator align tx rx ⌝ }
     {
         End {
-            initiator,
-            align,
-            tx,
-            rx,
-            write: 0,
-            read: 0,
-            sent: [blocks::FREE; End::BLOCKS],
-            held: [blocks::FREE; End::BLOCKS],
+            numbers: Numbers {
+                initiator,
+                align,
+                tx,
+                rx,
+                write: 0,
+                read: 0,
+            },
+            tables: tables::fresh(),
             endpoints: [endpoints::NO_ENDPOINT; End::ENDPOINTS],
             bindings: [endpoints::NO_BINDING; End::BINDINGS],
         }
     }
 
     // A refused opening gives a closed end, which answers 6 to every call.
-    fn closed(x: Refusal) -> Called
+    fn closed(x: Refusal) -> Opened
         ensures { λ r. ⌜ outcomeOf r ≡ closedWith (numberOf x) ⌝ }
     {
-        Called {
+        Opened {
             answer: Answer::Refused(x),
             end: End::fresh(false, 0, NO_REGION, NO_REGION),
         }
     }
 
     // Opens an end: checks the transmit region, then the receive region, then that they share no byte. What the rules promise for every
-    // list of calls from here on is ensured with it.
-    pub fn open(o: Opening) -> Called
+    // list of calls from here on is ensured with it, and that the tables' bytes serve such a list as the rules' entries do.
+    pub fn open(o: Opening) -> Opened
         ensures answer { λ r. ⌜ outcomeOf r ≡ opening o ⌝ }
         ensures promises { λ _. ⌜ Promises ⌝ }
+        ensures tables { λ _. ⌜ SameEnds ⌝ }
     {
         let tx = o.tx;
         let rx = o.rx;
@@ -85,7 +89,7 @@ impl End {
                     LayoutAnswer::Refused(x) => End::closed(x),
                     LayoutAnswer::Accepted(r) => {
                         if (tx.end <= rx.begin) | (rx.end <= tx.begin) {
-                            Called {
+                            Opened {
                                 answer: Answer::Accepted,
                                 end: End::fresh(
                                     rx.begin < tx.begin,

@@ -1,151 +1,149 @@
 // Registering an endpoint (01, "Binding").
 ghost use mathlib.Core.Bool.{true};
 ghost use mathlib.Core.Path.{_≡_};
-ghost use Prim.Native.Nat.{_<_};
 ghost use lib.ListN.{length};
 ghost use Rattle.wire.specs.Bytes.{wrote};
-ghost use Rattle.endpoints.specs.Endpoints.{goodName, holds, bindingAt};
+ghost use Rattle.blocks.specs.Names.{paddedName};
+ghost use Rattle.endpoints.specs.Endpoints.{goodName};
 ghost use Rattle.icbmsg.specs.Outcome.{withoutWrites};
-ghost use Rattle.link.specs.Answers.{outcomeOf, endOf};
-ghost use Rattle.icbmsg.specs.Ends.{isOpen};
-ghost use Rattle.icbmsg.specs.Registering.{initiates, followed, registerOf};
+ghost use Rattle.icbmsg.specs.Ends.{openNumbers};
+ghost use Rattle.icbmsg.specs.Registering.{registerOf};
+ghost use Rattle.checks.specs.Parts.{joined};
+ghost use Rattle.link.specs.Answers.{calledOf};
+ghost use Rattle.link.specs.Parts.{Initiates, InitiatesTx, Follows};
 use crate::Answer;
 use crate::Called;
 use crate::End;
+use crate::arrivals::called;
 use blocks::Found;
 use blocks::Use;
+use checks::Space;
+use checks::registrations::Place;
+use endpoints::Binding;
+use endpoints::BindingChange;
 use endpoints::BindingTest;
 use endpoints::Endpoint;
-use endpoints::EndpointTest;
+use endpoints::EndpointChange;
 use endpoints::Stage;
-use refusal::Refusal;
+use icbmsg::Numbers;
 
-impl End {
-    // Sends a binding for the endpoint at place i, which then waits.
-    fn initiate(mut self, tx: &mut [u8], name: &[u8], i: usize) -> Called
-        requires { ⌜ (isOpen (endOf self) ≡ true) × (length (now tx) ≡ self .tx .bytes) × (goodName 31 (now name) ≡ true) × (i < 8) ⌝ }
-        ensures answer { λ r. ⌜ outcomeOf r ≡ withoutWrites (initiates (endOf self) (now (name .entry)) i) ⌝ }
-        ensures tx { λ _. ⌜ now (tx .exit) ≡ wrote (now (tx .entry)) (initiates (endOf self) (now (name .entry)) i .tx) ⌝ }
-    {
-        let k = name.len() as u32 + 1;
-        let n = blocks::least_blocks(self.tx.size, k);
-        if (self.tx.count as usize) < n {
-            return Called {
-                answer: Answer::Refused(Refusal::CannotFit),
-                end: self,
-            };
-        }
-        let sent = self.sent;
-        let Found::At(s) = blocks::lowest_run(sent, self.tx.count, n) else {
-            return Called {
-                answer: Answer::Refused(Refusal::NoRoom),
-                end: self,
-            };
-        };
-        let endpoints = self.endpoints;
-        let address = endpoints::unused_address(endpoints);
-        blocks::framing::write_binding(
-            tx,
-            self.tx.blocks as usize + s * self.tx.size as usize,
-            name,
-        );
-        let taken = blocks::take_run(sent, Use::SentBinding, s, n, address, k);
-        self.sent = taken;
-        let kept = blocks::framing::padded(name, 0, name.len());
-        self.endpoints[i] = Endpoint {
-            stage: Stage::Waiting,
-            address,
-            name: kept,
-        };
-        Called {
-            answer: Answer::Control {
-                kind: 2,
-                address,
-                block: s as u8,
-            },
-            end: self,
+// Sends a binding for the endpoint at place i, kept under this name, which then waits.
+fn initiate(
+    n: Numbers,
+    t: &mut [u8],
+    endpoints: [Endpoint; End::ENDPOINTS],
+    tx: &mut [u8],
+    name: &[u8],
+    kept: [u8; 32],
+    i: usize,
+) -> Called
+    requires { ⌜ (openNumbers (n .align) (n .tx) (n .rx) (n .write) (n .read) ≡ true) × (length (now tx) ≡ n .tx .bytes) × (goodName 31 (now name) ≡ true) × (kept ≡ paddedName (now name)) × (length (now t) ≡ 3136) ⌝ }
+    ensures answer { λ r. ⌜ Initiates r n (now (t .entry)) endpoints (now (name .entry)) i (now (t .exit)) ⌝ }
+    ensures tx { λ _. ⌜ InitiatesTx n (now (t .entry)) endpoints (now (name .entry)) i (now (tx .entry)) (now (tx .exit)) ⌝ }
+{
+    let k = name.len() as u32 + 1;
+    match checks::fit(n.tx, t, k) {
+        Space::Refused(x) => called(Answer::Refused(x)),
+        Space::At { start, count } => {
+            let address = endpoints::unused_address(endpoints);
+            let first = n.tx.blocks as usize + start * n.tx.size as usize;
+            blocks::framing::write_binding(tx, first, name);
+            tables::take_run(t, tables::SENT, Use::SentBinding, start, count, address, k);
+            Called {
+                answer: Answer::Control {
+                    kind: 2,
+                    address,
+                    block: start as u8,
+                },
+                endpoint: EndpointChange {
+                    place: Found::At(i),
+                    endpoint: Endpoint {
+                        stage: Stage::Waiting,
+                        address,
+                        name: kept,
+                    },
+                },
+                binding: endpoints::SAME_BINDINGS,
+            }
         }
     }
+}
 
-    // Binds the endpoint at place i to a stored binding of its name, if there is one; else it waits.
-    fn follow(mut self, name: &[u8], i: usize) -> Called
-        requires { ⌜ (isOpen (endOf self) ≡ true) × (goodName 31 (now name) ≡ true) × (i < 8) ⌝ }
-        ensures { λ r. ⌜ outcomeOf r ≡ followed (endOf self) (now (name .entry)) i (bindingAt (holds (self .rx .count) (now (name .entry))) (self .bindings)) ⌝ }
-    {
-        let kept = blocks::framing::padded(name, 0, name.len());
-        let count = self.rx.count;
-        let bindings = self.bindings;
-        match endpoints::find_binding(bindings, BindingTest::Holds, count, 0, &kept) {
-            Found::Nowhere => {
-                self.endpoints[i] = Endpoint {
+// Binds the endpoint at place i to a stored binding of its name, if there is one; else it waits.
+fn follow(
+    n: Numbers,
+    t: &mut [u8],
+    bindings: [Binding; End::BINDINGS],
+    kept: [u8; 32],
+    i: usize,
+) -> Called
+    requires { ⌜ (openNumbers (n .align) (n .tx) (n .rx) (n .write) (n .read) ≡ true) × (length (now t) ≡ 3136) ⌝ }
+    ensures { λ r. ⌜ Follows r n (now (t .entry)) bindings kept i (now (t .exit)) ⌝ }
+{
+    let place = endpoints::find_binding(bindings, BindingTest::Holds, n.rx.count, 0, &kept);
+    match place {
+        Found::Nowhere => Called {
+            answer: Answer::Accepted,
+            endpoint: EndpointChange {
+                place: Found::At(i),
+                endpoint: Endpoint {
                     stage: Stage::Waiting,
                     address: 0,
                     name: kept,
-                };
-                Called {
-                    answer: Answer::Accepted,
-                    end: self,
-                }
-            }
-            Found::At(j) => {
-                let b = self.bindings[j];
-                let held = self.held;
-                let freed = blocks::free_run(held, b.start as usize, b.count as usize);
-                self.held = freed;
-                self.endpoints[i] = Endpoint {
-                    stage: Stage::Bound,
+                },
+            },
+            binding: endpoints::SAME_BINDINGS,
+        },
+        Found::At(j) => {
+            let b = bindings[j];
+            tables::free_run(t, tables::HELD, b.start as usize, b.count as usize);
+            Called {
+                answer: Answer::Control {
+                    kind: 3,
                     address: b.address,
-                    name: kept,
-                };
-                self.bindings[j] = endpoints::NO_BINDING;
-                Called {
-                    answer: Answer::Control {
-                        kind: 3,
+                    block: b.start as u8,
+                },
+                endpoint: EndpointChange {
+                    place: Found::At(i),
+                    endpoint: Endpoint {
+                        stage: Stage::Bound,
                         address: b.address,
-                        block: b.start as u8,
+                        name: kept,
                     },
-                    end: self,
-                }
+                },
+                binding: BindingChange {
+                    place: Found::At(j),
+                    binding: endpoints::NO_BINDING,
+                },
             }
         }
     }
+}
 
+impl End {
     // Registers an endpoint by its name.
-    pub fn register(self, tx: &mut [u8], name: &[u8]) -> Called
-        ensures answer { λ r. ⌜ outcomeOf r ≡ withoutWrites (registerOf (endOf self) (length (now (tx .entry))) (now (name .entry))) ⌝ }
-        ensures tx { λ _. ⌜ now (tx .exit) ≡ wrote (now (tx .entry)) (registerOf (endOf self) (length (now (tx .entry))) (now (name .entry)) .tx) ⌝ }
+    pub fn register(
+        numbers: Numbers,
+        endpoints: [Endpoint; End::ENDPOINTS],
+        bindings: [Binding; End::BINDINGS],
+        tables: &mut [u8; End::TABLES],
+        tx: &mut [u8],
+        name: &[u8],
+    ) -> Called
+        ensures answer { λ r. ⌜ calledOf r numbers (now (tables .exit)) endpoints bindings ≡ withoutWrites (registerOf (joined numbers (now (tables .entry)) endpoints bindings) (length (now (tx .entry))) (now (name .entry))) ⌝ }
+        ensures tx { λ _. ⌜ now (tx .exit) ≡ wrote (now (tx .entry)) (registerOf (joined numbers (now (tables .entry)) endpoints bindings) (length (now (tx .entry))) (now (name .entry)) .tx) ⌝ }
     {
-        let opened = checks::is_open(self.align, self.tx, self.rx, self.write, self.read);
-        if !(opened & (tx.len() == self.tx.bytes as usize)) {
-            return Called {
-                answer: Answer::Refused(Refusal::WrongRegion),
-                end: self,
-            };
-        }
-        if !endpoints::is_good_name(name, End::LONGEST_NAME) {
-            return Called {
-                answer: Answer::Refused(Refusal::BadName),
-                end: self,
-            };
-        }
-        let kept = blocks::framing::padded(name, 0, name.len());
-        let endpoints = self.endpoints;
-        if endpoints::has(endpoints, EndpointTest::Registered, 0, &kept) {
-            return Called {
-                answer: Answer::Refused(Refusal::NameTaken),
-                end: self,
-            };
-        }
-        match endpoints::find(endpoints, EndpointTest::Unused, 0, &kept) {
-            Found::Nowhere => Called {
-                answer: Answer::Refused(Refusal::NoPlace),
-                end: self,
-            },
-            Found::At(i) => {
-                if self.initiator {
-                    self.initiate(tx, name, i)
+        let t = &mut tables[..];
+        let registering = checks::registrations::register(numbers, endpoints, tx.len(), name);
+        let kept = registering.name;
+        let place = registering.place;
+        match place {
+            Place::Refused(x) => called(Answer::Refused(x)),
+            Place::At(i) => {
+                if numbers.initiator {
+                    initiate(numbers, t, endpoints, tx, name, kept, i)
                 } else {
-                    self.follow(name, i)
+                    follow(numbers, t, bindings, kept, i)
                 }
             }
         }

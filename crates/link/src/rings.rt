@@ -1,15 +1,16 @@
 // The calls on the rings: start, push and pull (01, "Ring").
 ghost use mathlib.Core.Path.{_≡_};
 ghost use lib.ListN.{length};
-ghost use Rattle.wire.specs.Bytes.{wrote};
 ghost use Rattle.wire.specs.Reads.{answer};
 ghost use Rattle.icmsg.specs.Rules.{answerOf, answerNumber};
 ghost use Rattle.icbmsg.specs.Outcome.{aLength, withoutWrites};
-ghost use Rattle.link.specs.Answers.{packetNumber, packetGiven, lengthOf, indexOf, ringOutcomeOf, endOf};
+ghost use Rattle.link.specs.Answers.{packetNumber, packetGiven, lengthOf, indexOf};
+ghost use Rattle.link.specs.Parts.{OnNumbers, Writes};
 ghost use Rattle.icbmsg.specs.Rings.{ringOf, startOf, pushOf, pullRule};
 use crate::End;
 use crate::PacketAnswer;
 use crate::RingCalled;
+use icbmsg::Numbers;
 use icbmsg::Region;
 use icmsg::Ring;
 use icmsg::RingAnswer;
@@ -26,7 +27,7 @@ fn ring_of(a: u16, g: Region) -> Ring
     }
 }
 
-// What a ring's answer tells the caller: the length. The own index is the end's.
+// What a ring's answer tells the caller: the length. The own index is among the numbers.
 fn told(a: RingAnswer) -> PacketAnswer
     ensures number { λ r. ⌜ packetNumber r ≡ answerNumber (answerOf a) ⌝ }
     ensures given { λ r. ⌜ packetGiven r ≡ aLength (lengthOf (answerOf a)) ⌝ }
@@ -47,65 +48,68 @@ fn own_index(a: RingAnswer, own: u32) -> u32
     }
 }
 
+// A region that is not lent whole, or an end that is not open.
+fn refused(numbers: Numbers) -> RingCalled
+    ensures { λ r. ⌜ (packetNumber (r .answer) ≡ 6) × (packetGiven (r .answer) ≡ aLength 0) × (r .numbers ≡ numbers) ⌝ }
+{
+    RingCalled {
+        answer: PacketAnswer::Refused(Refusal::WrongRegion),
+        numbers,
+    }
+}
+
 impl End {
     // Writes both indexes of the transmit ring as zero, and puts the start content on it.
-    pub fn start(mut self, tx: &mut [u8]) -> RingCalled
-        ensures answer { λ r. ⌜ ringOutcomeOf r ≡ withoutWrites (startOf (endOf self) (length (now (tx .entry)))) ⌝ }
-        ensures tx { λ _. ⌜ now (tx .exit) ≡ wrote (now (tx .entry)) (startOf (endOf self) (length (now (tx .entry))) .tx) ⌝ }
+    pub fn start(mut numbers: Numbers, tx: &mut [u8]) -> RingCalled
+        ensures answer { λ r. ⌜ OnNumbers (λ e. withoutWrites (startOf e (length (now (tx .entry))))) numbers r ⌝ }
+        ensures tx { λ _. ⌜ Writes (λ o. o .tx) (λ e. startOf e (length (now (tx .entry)))) numbers (now (tx .entry)) (now (tx .exit)) ⌝ }
     {
-        let opened = checks::is_open(self.align, self.tx, self.rx, self.write, self.read);
-        if !(opened & (tx.len() == self.tx.bytes as usize)) {
-            return RingCalled {
-                answer: PacketAnswer::Refused(Refusal::WrongRegion),
-                end: self,
-            };
+        if !checks::is_whole(numbers, numbers.tx, tx.len()) {
+            return refused(numbers);
         }
-        let answer = icmsg::start(tx, ring_of(self.align, self.tx));
-        self.write = own_index(answer, self.write);
+        let answer = icmsg::start(tx, ring_of(numbers.align, numbers.tx));
+        numbers.write = own_index(answer, numbers.write);
         RingCalled {
             answer: told(answer),
-            end: self,
+            numbers,
         }
     }
 
     // Puts a packet with the content on the transmit ring.
-    pub fn push(mut self, tx: &mut [u8], content: &[u8]) -> RingCalled
-        ensures answer { λ r. ⌜ ringOutcomeOf r ≡ withoutWrites (pushOf (endOf self) (now (tx .entry)) (now (content .entry))) ⌝ }
-        ensures tx { λ _. ⌜ now (tx .exit) ≡ wrote (now (tx .entry)) (pushOf (endOf self) (now (tx .entry)) (now (content .entry)) .tx) ⌝ }
+    pub fn push(mut numbers: Numbers, tx: &mut [u8], content: &[u8]) -> RingCalled
+        ensures answer { λ r. ⌜ OnNumbers (λ e. withoutWrites (pushOf e (now (tx .entry)) (now (content .entry)))) numbers r ⌝ }
+        ensures tx { λ _. ⌜ Writes (λ o. o .tx) (λ e. pushOf e (now (tx .entry)) (now (content .entry))) numbers (now (tx .entry)) (now (tx .exit)) ⌝ }
     {
-        let opened = checks::is_open(self.align, self.tx, self.rx, self.write, self.read);
-        if !(opened & (tx.len() == self.tx.bytes as usize)) {
-            return RingCalled {
-                answer: PacketAnswer::Refused(Refusal::WrongRegion),
-                end: self,
-            };
+        if !checks::is_whole(numbers, numbers.tx, tx.len()) {
+            return refused(numbers);
         }
-        let answer = icmsg::push(tx, ring_of(self.align, self.tx), self.write, content);
-        self.write = own_index(answer, self.write);
+        let answer = icmsg::push(
+            tx,
+            ring_of(numbers.align, numbers.tx),
+            numbers.write,
+            content,
+        );
+        numbers.write = own_index(answer, numbers.write);
         RingCalled {
             answer: told(answer),
-            end: self,
+            numbers,
         }
     }
 
     // Takes the next packet off the receive ring, and copies what fits of its content to the buffer.
-    pub fn pull(mut self, rx: &mut [u8], buffer: &mut [u8]) -> RingCalled
-        ensures answer { λ r. ⌜ ringOutcomeOf r ≡ withoutWrites (answer (pullRule (endOf self) (length (now (rx .entry))) (length (now (buffer .entry)))) (now (rx .entry))) ⌝ }
-        ensures rx { λ _. ⌜ now (rx .exit) ≡ wrote (now (rx .entry)) (answer (pullRule (endOf self) (length (now (rx .entry))) (length (now (buffer .entry)))) (now (rx .entry)) .rx) ⌝ }
-        ensures buffer { λ _. ⌜ now (buffer .exit) ≡ wrote (now (buffer .entry)) (answer (pullRule (endOf self) (length (now (rx .entry))) (length (now (buffer .entry)))) (now (rx .entry)) .buffer) ⌝ }
+    pub fn pull(mut numbers: Numbers, rx: &mut [u8], buffer: &mut [u8]) -> RingCalled
+        ensures answer { λ r. ⌜ OnNumbers (λ e. withoutWrites (answer (pullRule e (length (now (rx .entry))) (length (now (buffer .entry)))) (now (rx .entry)))) numbers r ⌝ }
+        ensures rx { λ _. ⌜ Writes (λ o. o .rx) (λ e. answer (pullRule e (length (now (rx .entry))) (length (now (buffer .entry)))) (now (rx .entry))) numbers (now (rx .entry)) (now (rx .exit)) ⌝ }
+        ensures buffer { λ _. ⌜ Writes (λ o. o .buffer) (λ e. answer (pullRule e (length (now (rx .entry))) (length (now (buffer .entry)))) (now (rx .entry))) numbers (now (buffer .entry)) (now (buffer .exit)) ⌝ }
     {
-        let opened = checks::is_open(self.align, self.tx, self.rx, self.write, self.read);
-        if !(opened & (rx.len() == self.rx.bytes as usize)) {
-            return RingCalled {
-                answer: PacketAnswer::Refused(Refusal::WrongRegion),
-                end: self,
-            };
+        if !checks::is_whole(numbers, numbers.rx, rx.len()) {
+            return refused(numbers);
         }
-        let answer = icmsg::pull(rx, ring_of(self.align, self.rx), self.read, buffer);
-        self.read = own_index(answer, self.read);
+        let answer = icmsg::pull(rx, ring_of(numbers.align, numbers.rx), numbers.read, buffer);
+        numbers.read = own_index(answer, numbers.read);
         RingCalled {
             answer: told(answer),
-            end: self,
+            numbers,
         }
     }
 }

@@ -1,5 +1,6 @@
 // Rounds of an end's calls, for a C program to time: each function opens an end, makes the same calls again and again, and answers a
 // checksum of what they answered. bench/calls.c makes the same rounds with an end in plain C, and compares.
+use blocks::Found;
 use icbmsg::Bounds;
 use icbmsg::Opening;
 use link::Answer;
@@ -61,8 +62,7 @@ fn crowded(fresh: End, taken: u32) -> End {
     let mut end = fresh;
     let mut i: u32 = 0;
     while i < taken {
-        let reserved = end.reserve(0);
-        end = reserved.end;
+        let _ = End::reserve(end.numbers, &mut end.tables, 0);
         i += 1;
     }
     end
@@ -70,12 +70,30 @@ fn crowded(fresh: End, taken: u32) -> End {
 
 // An initiator's end with one endpoint, bound to address 0.
 fn bound(fresh: End, tx: &mut [u8], rx: &[u8]) -> End {
+    let mut end = fresh;
     let name = *b"bench";
-    let registered = fresh.register(tx, &name);
-    let waiting = registered.end;
+    let registered = End::register(
+        end.numbers,
+        end.endpoints,
+        end.bindings,
+        &mut end.tables,
+        tx,
+        &name,
+    );
+    let waiting = registered.endpoint;
+    end.endpoints = waiting.applied(end.endpoints);
     let message = [3u8, 0, 0];
-    let released = waiting.arrival(rx, &message);
-    released.end
+    let released = End::arrival(
+        end.numbers,
+        end.endpoints,
+        end.bindings,
+        &mut end.tables,
+        rx,
+        &message,
+    );
+    let bound = released.endpoint;
+    end.endpoints = bound.applied(end.endpoints);
+    end
 }
 
 // Reserves k bytes and drops them, behind `taken` blocks that stay reserved.
@@ -90,12 +108,8 @@ pub extern "C" fn petrelknob_rounds_reserve(
     let mut sum: u32 = 0;
     let mut i: u32 = 0;
     while i < rounds {
-        let reserved = end.reserve(k);
-        let run = reserved.answer;
-        let between = reserved.end;
-        let dropped = between.drop(start_of(run));
-        let gone = dropped.answer;
-        end = dropped.end;
+        let run = End::reserve(end.numbers, &mut end.tables, k);
+        let gone = End::drop(end.numbers, &mut end.tables, start_of(run));
         sum = added(added(sum, run), gone);
         i += 1;
     }
@@ -116,15 +130,33 @@ pub extern "C" fn petrelknob_rounds_send(
     let mut sum: u32 = 0;
     let mut i: u32 = 0;
     while i < rounds {
-        let reserved = end.reserve(k);
-        let run = reserved.answer;
-        let between = reserved.end;
-        let sent = between.send(tx, start_of(run), 0, k);
-        let order = sent.answer;
-        let away = sent.end;
-        let released = away.arrival(rx, &message);
+        let run = End::reserve(end.numbers, &mut end.tables, k);
+        let order = End::send(
+            end.numbers,
+            end.endpoints,
+            &mut end.tables,
+            tx,
+            start_of(run),
+            0,
+            k,
+        );
+        let released = End::arrival(
+            end.numbers,
+            end.endpoints,
+            end.bindings,
+            &mut end.tables,
+            rx,
+            &message,
+        );
         let freed = released.answer;
-        end = released.end;
+        let change = released.endpoint;
+        let place = change.place;
+        if let Found::At(j) = place {
+            if j < End::ENDPOINTS {
+                let endpoint = change.endpoint;
+                end.endpoints[j] = endpoint;
+            }
+        }
         sum = added(added(added(sum, run), order), freed);
         i += 1;
     }
@@ -144,12 +176,24 @@ pub extern "C" fn petrelknob_rounds_arrival(
     let mut sum: u32 = 0;
     let mut i: u32 = 0;
     while i < rounds {
-        let arrived = end.arrival(rx, &message);
+        let arrived = End::arrival(
+            end.numbers,
+            end.endpoints,
+            end.bindings,
+            &mut end.tables,
+            rx,
+            &message,
+        );
         let delivered = arrived.answer;
-        let reading = arrived.end;
-        let done = reading.done(0);
-        let order = done.answer;
-        end = done.end;
+        let change = arrived.endpoint;
+        let place = change.place;
+        if let Found::At(j) = place {
+            if j < End::ENDPOINTS {
+                let endpoint = change.endpoint;
+                end.endpoints[j] = endpoint;
+            }
+        }
+        let order = End::done(end.numbers, &mut end.tables, 0);
         sum = added(added(sum, delivered), order);
         i += 1;
     }

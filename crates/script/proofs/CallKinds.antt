@@ -1,7 +1,7 @@
 -- The outcome of each kind of call, by the numbers that the code has read; and how long its body is.
 use Prim.Native.Nat.{ℕ, _≤_}
 use mathlib.Core.Bool.{Bool, true, false, _&&_, _||_, false≢true}
-use mathlib.Core.Path.{_≡_, refl, ap, _∙_}
+use mathlib.Core.Path.{_≡_, ap, _∙_}
 use mathlib.Core.List.{List}
 use lib.Dec.{leb, eqb}
 use lib.ListN.{length, take}
@@ -15,10 +15,7 @@ use Rattle.icbmsg.specs.Registering.{registerOf}
 use Rattle.icbmsg.specs.Arrivals.{arrivalRule}
 use Rattle.icbmsg.specs.Calls.{rule, lent, step, pull}
 use Rattle.icbmsg.specs.End.{End}
-use Rattle.link.specs.Answers.{answerNumber, answerGiven, answered, endOf}
-use Rattle.link.specs.declared.Answer.{Answer}
-use Rattle.link.specs.declared.End.{End as CodeEnd}
-use Rattle.script.specs.Rows.{reply, replyOf}
+use Rattle.script.specs.Rows.{replyOf}
 use Rattle.script.specs.Records.{numberAt, has}
 use Rattle.script.specs.Calls.{callOf, callOutcome, RanAs}
 use Rattle.script.specs.declared.calls.Ran.{Ran}
@@ -30,10 +27,6 @@ same-outcome h e = rw (← e) h
 
 pub but-for-writes : {r : Ran} {o o′ : Outcome} → RanAs r o → o ≡ withoutWrites o′ → RanAs r o′
 but-for-writes h e = record { reply = h .reply ∙ ap replyOf e; end = h .end ∙ ap (λ (o : Outcome). o .next) e }
-
--- a question changes no end
-pub asked-as : (a : Answer) (x : CodeEnd) {l : List ℕ} → l ≡ reply (answerNumber a) (answerGiven a) 0 0 → RanAs (record { reply = l; end = x }) (answered a (endOf x))
-asked-as a x h = record { reply = h; end = refl }
 
 module _ (e : End) (b tx rx buffer : List ℕ) (k : ℕ) where
   pub kind-0 : k ≡ 0 → answer (arrivalRule e (length rx) b) rx ≡ callOutcome e k b tx rx buffer

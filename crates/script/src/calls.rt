@@ -6,17 +6,17 @@ ghost use lib.ListN.{length, take};
 ghost use Rattle.wire.specs.Bytes.{wrote};
 ghost use Rattle.icbmsg.specs.Messages.{roomOf, viewOf};
 ghost use Rattle.icbmsg.specs.Calls.{step as stepRule, pull as pullCall};
-ghost use Rattle.link.specs.Answers.{answerNumber, answerGiven, endOf, outcomeOf, ringOutcomeOf};
-ghost use Rattle.script.specs.Rows.{reply, replyOf};
+ghost use Rattle.link.specs.Answers.{answerNumber, answerGiven, endOf, answered, calledOf, ringCalledOf};
+ghost use Rattle.script.specs.Rows.{reply};
 ghost use Rattle.script.specs.Records.{has};
 ghost use Rattle.script.specs.Calls.{IsCall, RanAs, Wrote, callOutcome, overwritten, Leaves, recordStep, stepOf};
 use crate::rows;
-use icbmsg::Region;
 use link::Answer;
 use link::Called;
 use link::End;
 use link::Place;
 use link::RingCalled;
+use wire::read_u32;
 
 // How many bytes of each region calls are lent, if the memory has as many.
 pub struct Lent {
@@ -37,20 +37,37 @@ pub struct Ran {
     pub end: End,
 }
 
-fn of_call(c: Called) -> Ran
-    ensures { λ r. ⌜ RanAs r (outcomeOf c) ⌝ }
+// What is told of an answer, and the end that the call leaves.
+fn of_answer(answer: Answer, end: End) -> Ran
+    ensures { λ r. ⌜ RanAs r (answered answer (endOf end)) ⌝ }
 {
-    let answer = c.answer;
-    let end = c.end;
     let reply = rows::answered(answer);
     Ran { reply, end }
 }
 
-fn of_ring_call(c: RingCalled) -> Ran
-    ensures { λ r. ⌜ RanAs r (ringOutcomeOf c) ⌝ }
+// Of an arrival or a registration on the end, which is left with the changes that are handed back.
+fn of_call(c: Called, mut end: End) -> Ran
+    ensures { λ r. ⌜ RanAs r (calledOf c (end .numbers) (end .tables) (end .endpoints) (end .bindings)) ⌝ }
 {
     let answer = c.answer;
-    let end = c.end;
+    let endpoint = c.endpoint;
+    let endpoints = end.endpoints;
+    let endpoints = endpoint.applied(endpoints);
+    end.endpoints = endpoints;
+    let binding = c.binding;
+    let bindings = end.bindings;
+    let bindings = binding.applied(bindings);
+    end.bindings = bindings;
+    of_answer(answer, end)
+}
+
+// Of a ring call on the end, which is left with the numbers that are handed back.
+fn of_ring_call(c: RingCalled, mut end: End) -> Ran
+    ensures { λ r. ⌜ RanAs r (ringCalledOf c (end .tables) (end .endpoints) (end .bindings)) ⌝ }
+{
+    let answer = c.answer;
+    let numbers = c.numbers;
+    end.numbers = numbers;
     let reply = rows::ring_answered(answer);
     Ran { reply, end }
 }
@@ -68,21 +85,25 @@ fn placed(place: Place, size: usize) -> [u32; 9]
 }
 
 // The room of a reservation: its place, and the bytes of the part that is lent.
-fn room(end: End, tx: &mut [u8], start: u32) -> [u32; 9]
-    ensures { λ r. ⌜ r ≡ replyOf (roomOf (endOf end) (length (now (tx .entry))) start) ⌝ }
+fn room(end: End, tx: &mut [u8], start: u32) -> Ran
+    ensures { λ r. ⌜ RanAs r (roomOf (endOf end) (length (now (tx .entry))) start) ⌝ }
 {
-    let place = end.room_place(start, tx.len());
-    let size = end.room(tx, start).len();
-    placed(place, size)
+    let numbers = end.numbers;
+    let place = End::room_place(numbers, &end.tables, start, tx.len());
+    let size = End::room(numbers, &end.tables, tx, start).len();
+    let reply = placed(place, size);
+    Ran { reply, end }
 }
 
 // The view of a received message.
-fn view(end: End, rx: &[u8], start: u32) -> [u32; 9]
-    ensures { λ r. ⌜ r ≡ replyOf (viewOf (endOf end) (length (now (rx .entry))) start) ⌝ }
+fn view(end: End, rx: &[u8], start: u32) -> Ran
+    ensures { λ r. ⌜ RanAs r (viewOf (endOf end) (length (now (rx .entry))) start) ⌝ }
 {
-    let place = end.view_place(start, rx.len());
-    let size = end.view(rx, start).len();
-    placed(place, size)
+    let numbers = end.numbers;
+    let place = End::view_place(numbers, &end.tables, start, rx.len());
+    let size = End::view(numbers, &end.tables, rx, start).len();
+    let reply = placed(place, size);
+    Ran { reply, end }
 }
 
 // Takes a packet off the receive ring, into the first n bytes of the buffer.
@@ -92,48 +113,44 @@ fn pull(end: End, rx: &mut [u8], buffer: &mut [u8], n: u32) -> Ran
     ensures buffer { λ _. ⌜ now (buffer .exit) ≡ wrote (now (buffer .entry)) (stepRule (endOf end) (pullCall (now (rx .entry)) (take n (now (buffer .entry)))) .buffer) ⌝ }
 {
     let lent = wire::least(n as usize, buffer.len());
-    let pulled = end.pull(rx, &mut buffer[..lent]);
-    of_ring_call(pulled)
+    let numbers = end.numbers;
+    let pulled = End::pull(numbers, rx, &mut buffer[..lent]);
+    of_ring_call(pulled, end)
 }
 
 // The call of a record, with what it is lent.
-fn call(end: End, kind: u8, body: &[u8], tx: &mut [u8], rx: &mut [u8], buffer: &mut [u8]) -> Ran
+fn call(mut end: End, kind: u8, body: &[u8], tx: &mut [u8], rx: &mut [u8], buffer: &mut [u8]) -> Ran
     requires { ⌜ IsCall kind (length (now body)) ⌝ }
     ensures answer { λ r. ⌜ RanAs r (callOutcome (endOf end) kind (now (body .entry)) (now (tx .entry)) (now (rx .entry)) (now (buffer .entry))) ⌝ }
     ensures memory { λ _. ⌜ Wrote kind (callOutcome (endOf end) kind (now (body .entry)) (now (tx .entry)) (now (rx .entry)) (now (buffer .entry))) (now (tx .entry)) (now (rx .entry)) (now (buffer .entry)) (now (tx .exit)) (now (rx .exit)) (now (buffer .exit)) ⌝ }
 {
+    let n = end.numbers;
+    let ps = end.endpoints;
+    let bs = end.bindings;
     match kind {
-        0 => of_call(end.arrival(rx, body)),
-        1 => of_call(end.register(tx, body)),
-        2 => of_call(end.reserve(wire::read_u32(body, 0))),
-        3 => of_call(end.send(
-            tx,
-            wire::read_u32(body, 0),
-            wire::read_u32(body, 4),
-            wire::read_u32(body, 8),
-        )),
-        4 => of_call(end.drop(wire::read_u32(body, 0))),
-        5 => of_call(end.done(wire::read_u32(body, 0))),
-        6 => of_ring_call(end.push(tx, body)),
-        16 => of_ring_call(end.start(tx)),
+        0 => of_call(End::arrival(n, ps, bs, &mut end.tables, rx, body), end),
+        1 => of_call(End::register(n, ps, bs, &mut end.tables, tx, body), end),
+        2 => of_answer(End::reserve(n, &mut end.tables, read_u32(body, 0)), end),
+        3 => {
+            let start = read_u32(body, 0);
+            let to = read_u32(body, 4);
+            let k = read_u32(body, 8);
+            of_answer(End::send(n, ps, &mut end.tables, tx, start, to, k), end)
+        }
+        4 => of_answer(End::drop(n, &mut end.tables, read_u32(body, 0)), end),
+        5 => of_answer(End::done(n, &mut end.tables, read_u32(body, 0)), end),
+        6 => of_ring_call(End::push(n, tx, body), end),
+        16 => of_ring_call(End::start(n, tx), end),
         17 => pull(end, rx, buffer, wire::read_u16(body, 0)),
-        18 => {
-            let reply = room(end, tx, wire::read_u32(body, 0));
-            Ran { reply, end }
-        }
-        19 => {
-            let reply = view(end, rx, wire::read_u32(body, 0));
-            Ran { reply, end }
-        }
+        18 => room(end, tx, read_u32(body, 0)),
+        19 => view(end, rx, read_u32(body, 0)),
         20 => {
-            let lent = wire::read_u32(body, 4) as usize;
-            let reply = rows::answered(end.ask_room(wire::read_u32(body, 0), lent));
-            Ran { reply, end }
+            let lent = read_u32(body, 4) as usize;
+            of_answer(End::ask_room(n, &end.tables, read_u32(body, 0), lent), end)
         }
         _ => {
-            let lent = wire::read_u32(body, 4) as usize;
-            let reply = rows::answered(end.ask_view(wire::read_u32(body, 0), lent));
-            Ran { reply, end }
+            let lent = read_u32(body, 4) as usize;
+            of_answer(End::ask_view(n, &end.tables, read_u32(body, 0), lent), end)
         }
     }
 }
@@ -143,7 +160,7 @@ fn overwrite(memory: &mut [u8], body: &[u8])
     requires { ⌜ 4 ≤ length (now body) ⌝ }
     ensures { λ _. ⌜ now (memory .exit) ≡ overwritten (now (memory .entry)) (now (body .entry)) ⌝ }
 {
-    let p = wire::read_u32(body, 0) as usize;
+    let p = read_u32(body, 0) as usize;
     if p < memory.len() {
         let n = wire::least(body.len() - 4, memory.len() - p);
         wire::copy(memory, p, body, 4, n);
@@ -185,8 +202,8 @@ pub(super) fn step(
             reply: [0; 9],
             end,
             lent: Lent {
-                tx: wire::read_u32(body, 0) as usize,
-                rx: wire::read_u32(body, 4) as usize,
+                tx: read_u32(body, 0) as usize,
+                rx: read_u32(body, 4) as usize,
             },
         },
         _ => {

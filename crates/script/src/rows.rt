@@ -81,8 +81,8 @@ fn sum(s: &[u8]) -> u32
 pub fn row(begun: [u32; 9], end: End, tx: &[u8], rx: &[u8], buffer: &[u8]) -> [u32; 14]
     ensures { λ r. ⌜ r ≡ rowOf begun (endOf end) (now (tx .entry)) (now (rx .entry)) (now (buffer .entry)) ⌝ }
 {
-    let sent = end.sent;
-    let held = end.held;
+    let tables = end.tables;
+    let table = &tables[..];
     [
         begun[0],
         begun[1],
@@ -92,8 +92,8 @@ pub fn row(begun: [u32; 9], end: End, tx: &[u8], rx: &[u8], buffer: &[u8]) -> [u
         begun[5],
         begun[6],
         begun[7],
-        blocks::free_blocks(sent, end.tx.count),
-        blocks::free_blocks(held, end.rx.count),
+        tables::free_blocks(table, tables::SENT, end.numbers.tx.count),
+        tables::free_blocks(table, tables::HELD, end.numbers.rx.count),
         sum(tx),
         sum(rx),
         sum(buffer),

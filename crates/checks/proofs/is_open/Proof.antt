@@ -2,6 +2,8 @@ use Rattle.checks.proofs.OpenNumbers.{open-of}
 use borrow.Author.Needs.{needs}
 use Rattle.checks.proofs.is_open.Statement.{statement}
 use Rattle.checks.proofs.is_open.Tie as tie
+use Rattle.checks.proofs.is_sound.Reads as is-sound-reads
+use Rattle.icmsg.proofs.in_rule.Reads as in-rule-reads
 
 in-rule-requires : tie.Need-in-rule-requires
 in-rule-requires c κs = search needs
@@ -17,8 +19,8 @@ is-sound-requires-2 c κs = search needs
 
 returns : tie.Need-returns
 returns c =
-    let a = c .before .before .before .before .args in
-    open-of (a .a) (a .tx) (a .rx) (a .write) (a .read) _ _ _ _ (c .before .before .before .in-rule .ensures) (c .before .before .in-rule2 .ensures) (c .before .is-sound .ensures) (c .is-sound2 .ensures)
+    let n = c .before .before .before .before .args .n in
+    open-of (n .align) (n .tx) (n .rx) (n .write) (n .read) _ _ _ _ (c .before .before .before .in-rule .ensures) (c .before .before .in-rule2 .ensures) (c .before .is-sound .ensures) (c .is-sound2 .ensures)
 
 pub is-open-spec : {M : Type 1} → statement M
 is-open-spec =

@@ -8,9 +8,10 @@ use Rattle.endpoints.proofs.Tests.{none-waits, one-waits}
 use borrow.Author.Needs.{needs}
 use Rattle.endpoints.proofs.bind_waiting.Statement.{statement}
 use Rattle.endpoints.proofs.bind_waiting.Tie as tie
+use Rattle.endpoints.proofs.find.Reads as find-reads
 
-place : (c : tie.After-i) → c .i .given .0 .0 + 1 ≤ 8
-place c = at-below _ 1 8 _ (c .before .before .find .ensures .1) (c .i .given .1)
+inside : (c : tie.After-place) → c .place .given .0 .0 + 1 ≤ 8
+inside c = at-below _ 1 8 _ (c .before .before .find .ensures .1) (c .place .given .1)
 
 slice-aggregate-find : tie.Need-slice-aggregate-find
 slice-aggregate-find c = search needs
@@ -21,20 +22,14 @@ find-requires c κs = search needs
 enum-told : tie.Need-enum-told
 enum-told c = search needs
 
-enum-known-i : tie.Need-enum-known-i
-enum-known-i c = search needs
+enum-known-place : tie.Need-enum-known-place
+enum-known-place c = search needs
 
 mul-p : tie.Need-mul-p
-mul-p c = omega (arith, place (c .before))
+mul-p c = omega (arith, inside (c .before))
 
 array-copy-out-p : tie.Need-array-copy-out-p
-array-copy-out-p c = omega (arith, place (c .before))
-
-mul-endpoints : tie.Need-mul-endpoints
-mul-endpoints c = omega (arith, place (c .before .before .before))
-
-array-set-from-endpoints : tie.Need-array-set-from-endpoints
-array-set-from-endpoints c = omega (arith, place (c .before .before .before))
+array-copy-out-p c = omega (arith, inside (c .before))
 
 returns : tie.Need-returns
 returns c =
@@ -45,7 +40,8 @@ returns-2 : tie.Need-returns-2
 returns-2 c =
     let a = c .before .before .before .before .before .before .before .args in
     let n : length (a .t1) ≡ 8 = search needs in
-    one-waits (a .t1) (a .address) (endpointAt (waitingAt (a .address)) (a .t1)) _ _ (ends-at _ _ (c .before .before .before .before .before .find .ensures .0) _ (c .before .before .before .i .given .1)) (omega (arith, place (c .before .before .before)))
+    let p = c .before .before .before in
+    one-waits (a .t1) (a .address) (endpointAt (waitingAt (a .address)) (a .t1)) _ _ (ends-at _ _ (p .before .before .find .ensures .0) _ (p .place .given .1)) (omega (arith, inside p))
 
 pub bind-waiting-spec : {M : Type 1} → statement M
 bind-waiting-spec =
@@ -54,10 +50,8 @@ bind-waiting-spec =
     slice-aggregate-find
     find-requires
     enum-told
-    enum-known-i
+    enum-known-place
     mul-p
     array-copy-out-p
-    mul-endpoints
-    array-set-from-endpoints
     returns
     returns-2)

@@ -2,6 +2,7 @@ use Prim.Native.Nat.{_-_, _≤_}
 use borrow.Author.Needs.{needs}
 use Rattle.rounds.proofs.crowded.Statement.{statement}
 use Rattle.rounds.proofs.crowded.Tie as tie
+use Rattle.link.proofs.End.reserve.Reads as reserve-reads
 
 abbrev Inv-loop : tie.InvT-loop
 Inv-loop taken end₀ i₀ end i = i ≤ taken

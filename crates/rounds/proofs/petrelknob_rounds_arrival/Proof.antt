@@ -2,6 +2,11 @@ use Prim.Native.Nat.{_-_, _≤_, _<_}
 use borrow.Author.Needs.{needs}
 use Rattle.rounds.proofs.petrelknob_rounds_arrival.Statement.{statement}
 use Rattle.rounds.proofs.petrelknob_rounds_arrival.Tie as tie
+use Rattle.link.proofs.End.arrival.Reads as arrival-reads
+use Rattle.link.proofs.End.done.Reads as done-reads
+use Rattle.rounds.proofs.added.Reads as added-reads
+use Rattle.rounds.proofs.bound.Reads as bound-reads
+use Rattle.rounds.proofs.opened.Reads as opened-reads
 
 abbrev Inv-loop : tie.InvT-loop
 Inv-loop opening tx rx rounds end₀ message sum₀ i₀ end sum i = (i ≤ rounds) × (rounds < 4294967296)
@@ -23,6 +28,18 @@ slice-aggregate-arrival c = search needs
 
 arrival-requires : tie.Need-arrival-requires Inv-loop μ-loop
 arrival-requires c κs = search needs
+
+enum-known-place : tie.Need-enum-known-place Inv-loop μ-loop
+enum-known-place c = search needs
+
+mul-endpoint : tie.Need-mul-endpoint Inv-loop μ-loop
+mul-endpoint c = search needs
+
+element-set-from-endpoint : tie.Need-element-set-from-endpoint Inv-loop μ-loop
+element-set-from-endpoint c = search needs
+
+enum-told : tie.Need-enum-told Inv-loop μ-loop
+enum-told c = search needs
 
 done-requires : tie.Need-done-requires Inv-loop μ-loop
 done-requires c κs = search needs
@@ -59,6 +76,10 @@ petrelknob-rounds-arrival-spec =
     loop-holds
     slice-aggregate-arrival
     arrival-requires
+    enum-known-place
+    mul-endpoint
+    element-set-from-endpoint
+    enum-told
     done-requires
     added-requires
     added-requires-2

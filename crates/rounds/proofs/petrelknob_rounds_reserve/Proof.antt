@@ -2,6 +2,12 @@ use Prim.Native.Nat.{_-_, _≤_, _<_}
 use borrow.Author.Needs.{needs}
 use Rattle.rounds.proofs.petrelknob_rounds_reserve.Statement.{statement}
 use Rattle.rounds.proofs.petrelknob_rounds_reserve.Tie as tie
+use Rattle.link.proofs.End.drop.Reads as drop-reads
+use Rattle.link.proofs.End.reserve.Reads as reserve-reads
+use Rattle.rounds.proofs.added.Reads as added-reads
+use Rattle.rounds.proofs.crowded.Reads as crowded-reads
+use Rattle.rounds.proofs.opened.Reads as opened-reads
+use Rattle.rounds.proofs.start_of.Reads as start-of-reads
 
 abbrev Inv-loop : tie.InvT-loop
 Inv-loop opening taken k rounds end₀ sum₀ i₀ end sum i = (i ≤ rounds) × (rounds < 4294967296)

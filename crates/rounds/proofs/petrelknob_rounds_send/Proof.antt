@@ -1,9 +1,17 @@
 use Prim.Native.Nat.{_-_, _≤_, _<_}
 use mathlib.Core.Path.{_≡_}
+use native.Mathlib.Omega.{arith}
 use lib.ListN.{length}
 use borrow.Author.Needs.{needs}
 use Rattle.rounds.proofs.petrelknob_rounds_send.Statement.{statement}
 use Rattle.rounds.proofs.petrelknob_rounds_send.Tie as tie
+use Rattle.link.proofs.End.arrival.Reads as arrival-reads
+use Rattle.link.proofs.End.reserve.Reads as reserve-reads
+use Rattle.link.proofs.End.send.Reads as send-reads
+use Rattle.rounds.proofs.added.Reads as added-reads
+use Rattle.rounds.proofs.bound.Reads as bound-reads
+use Rattle.rounds.proofs.opened.Reads as opened-reads
+use Rattle.rounds.proofs.start_of.Reads as start-of-reads
 
 abbrev Inv-loop : tie.InvT-loop
 Inv-loop opening tx₀ rx k rounds end₀ message sum₀ i₀ tx end sum i = (i ≤ rounds) × (rounds < 4294967296) × (length tx ≡ length tx₀)
@@ -35,6 +43,18 @@ slice-aggregate-arrival c = search needs
 arrival-requires : tie.Need-arrival-requires Inv-loop μ-loop
 arrival-requires c κs = search needs
 
+enum-known-place : tie.Need-enum-known-place Inv-loop μ-loop
+enum-known-place c = search needs
+
+mul-endpoint : tie.Need-mul-endpoint Inv-loop μ-loop
+mul-endpoint c = search needs
+
+element-set-from-endpoint : tie.Need-element-set-from-endpoint Inv-loop μ-loop
+element-set-from-endpoint c = search needs
+
+enum-told : tie.Need-enum-told Inv-loop μ-loop
+enum-told c = search needs
+
 added-requires : tie.Need-added-requires Inv-loop μ-loop
 added-requires c κs = search needs
 
@@ -45,13 +65,13 @@ added-requires-3 : tie.Need-added-requires-3 Inv-loop μ-loop
 added-requires-3 c κs = search needs
 
 add-i : tie.Need-add-i Inv-loop μ-loop
-add-i c = search needs
+add-i c = let l = c .before .before .before .before .before .before .before .before .before .before .before .before .before .before .before .before .before .before .before .before .before .before .before .loop in omega (arith, c .before .before .before .before .before .before .before .before .before .before .before .before .before .before .before .before .before .before .before .before .before .before .loop-test .taken, l .inv .1)
 
 loop-less : tie.Need-loop-less Inv-loop μ-loop
-loop-less c = search needs
+loop-less c = let l = c .before .before .before .before .before .before .before .before .before .before .before .before .before .before .before .before .before .before .before .before .before .before .before .loop in omega (arith, c .before .before .before .before .before .before .before .before .before .before .before .before .before .before .before .before .before .before .before .before .before .before .loop-test .taken, l .inv .1)
 
 loop-again : tie.Need-loop-again Inv-loop μ-loop
-loop-again c = search needs
+loop-again c = let l = c .before .before .before .before .before .before .before .before .before .before .before .before .before .before .before .before .before .before .before .before .before .before .before .loop in (omega (arith, c .before .before .before .before .before .before .before .before .before .before .before .before .before .before .before .before .before .before .before .before .before .before .loop-test .taken, l .inv .1), l .inv .1, search needs)
 
 same-length : tie.Need-same-length Inv-loop μ-loop
 same-length c = search needs
@@ -73,6 +93,10 @@ petrelknob-rounds-send-spec =
     send-requires
     slice-aggregate-arrival
     arrival-requires
+    enum-known-place
+    mul-endpoint
+    element-set-from-endpoint
+    enum-told
     added-requires
     added-requires-2
     added-requires-3

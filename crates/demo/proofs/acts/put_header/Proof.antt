@@ -20,24 +20,21 @@ cast-at-2 c = search needs
 
 mul-at : tie.Need-mul-at
 mul-at c =
-    let a = c .before .before .before .args in
+    let a = c .before .before .args in
     omega (arith, product (a .block) (a .g .size) (omega arith) (omega arith))
 
 add-at : tie.Need-add-at
 add-at c =
-    let a = c .before .before .before .args in
+    let a = c .before .before .args in
     omega (arith, product (a .block) (a .g .size) (omega arith) (omega arith))
 
 add-if1 : tie.Need-add-if1
 add-if1 c =
-    let a = c .before .before .before .args in
+    let a = c .before .before .args in
     omega (arith, product (a .block) (a .g .size) (omega arith) (omega arith))
 
 write-u32-requires : tie.Need-write-u32-requires
 write-u32-requires c κs = search needs
-
-same-length : tie.Need-same-length
-same-length c = search needs
 
 returns : tie.Need-returns
 returns c = search needs
@@ -48,13 +45,4 @@ returns-2 c = search needs
 pub put-header-spec : {M : Type 1} → statement M
 put-header-spec =
     tie.close
-    (tie.spec
-    cast-at
-    cast-at-2
-    mul-at
-    add-at
-    add-if1
-    write-u32-requires
-    same-length
-    returns
-    returns-2)
+    (tie.spec cast-at cast-at-2 mul-at add-at add-if1 write-u32-requires returns returns-2)

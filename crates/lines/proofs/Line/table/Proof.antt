@@ -4,10 +4,10 @@ use Rattle.lines.proofs.Line.table.Statement.{statement}
 use Rattle.lines.proofs.Line.table.Tie as tie
 
 abbrev Inv-loop : tie.InvT-loop
-Inv-loop count entries line₀ end i₀ line i = (i ≤ end) × (end ≤ 256)
+Inv-loop t base count line₀ end i₀ line i = (i ≤ end) × (end ≤ 256) × (base ≤ 1568)
 
 abbrev μ-loop : tie.MeasureT-loop
-μ-loop count entries line₀ end i₀ line i = end - i
+μ-loop t base count line₀ end i₀ line i = end - i
 
 slice-aggregate-text : tie.Need-slice-aggregate-text Inv-loop μ-loop
 slice-aggregate-text c = search needs
@@ -21,11 +21,8 @@ least-requires c κs = search needs
 loop-holds : tie.Need-loop-holds Inv-loop μ-loop
 loop-holds c = search needs
 
-mul-x : tie.Need-mul-x Inv-loop μ-loop
-mul-x c = search needs
-
-array-copy-out-x : tie.Need-array-copy-out-x Inv-loop μ-loop
-array-copy-out-x c = search needs
+entry-at-requires : tie.Need-entry-at-requires Inv-loop μ-loop
+entry-at-requires c κs = search needs
 
 letter-requires : tie.Need-letter-requires Inv-loop μ-loop
 letter-requires c κs = search needs
@@ -58,8 +55,7 @@ table-spec =
     text-requires
     least-requires
     loop-holds
-    mul-x
-    array-copy-out-x
+    entry-at-requires
     letter-requires
     byte-requires
     add-i

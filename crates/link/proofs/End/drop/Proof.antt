@@ -1,66 +1,82 @@
-use Rattle.link.specs.Answers.{endOf}
+use Prim.Native.Nat.{_+_, _≤_}
 use mathlib.Core.Bool.{true}
-use mathlib.Core.Path.{_≡_}
+use mathlib.Core.List.{List, []}
+use mathlib.Core.Path.{_≡_, sym, _∙_}
 use native.Mathlib.Omega.{arith}
-use borrow.Author.Tests.{not-true, not-false}
+use denote.Ref.{now}
 use Rattle.blocks.specs.Tables.{entry, starts}
 use Rattle.blocks.specs.declared.Use.the-variants.{Reserved}
-use Rattle.blocks.proofs.Tables.{nothing-there, run-there, run-of}
-use Rattle.icbmsg.specs.Ends.{isOpen, changed}
-use Rattle.link.proofs.OpenSays.{is-closed, is-open, open-says}
-use Rattle.link.proofs.MessageCalls.{drop-6, drop-25, drop-ok}
+use Rattle.blocks.proofs.Tables.{run-of}
+use Rattle.endpoints.specs.declared.Endpoint.{Endpoint}
+use Rattle.endpoints.specs.declared.Binding.{Binding}
+use Rattle.tables.specs.Compact.{tableOf}
+use Rattle.icbmsg.specs.Ends.{isOpen}
+use Rattle.icbmsg.specs.End.{End}
+use Rattle.checks.specs.Parts.{joined}
+use Rattle.checks.proofs.OpenSays.{open-says, open-is}
+use Rattle.checks.proofs.Runs.{run-refused, run-live}
+use Rattle.link.proofs.MessageCalls.{drop-refused, dropped}
 use borrow.Author.Needs.{needs}
 use Rattle.link.proofs.End.drop.Statement.{statement}
 use Rattle.link.proofs.End.drop.Tie as tie
+use Rattle.checks.proofs.is_open.Reads as is-open-reads
+use Rattle.checks.proofs.live.Reads as live-reads
+use Rattle.tables.proofs.free_run.Reads as free-run-reads
 
-opened : (c : tie.Else1) → isOpen (endOf (c .before .before .args .self)) ≡ true
-opened c = is-open (endOf (c .before .before .args .self)) _ (c .before .is-open .ensures) (not-false _ (c .if1 .left))
+abbrev of : tie.Start → List Endpoint → List Binding → End
+of c = joined (c .args .numbers) (now (c .args .tables))
 
-run : (c : tie.After-x) → let e = c .before .before .before .before .before .before .args .self in let s = c .before .before .before .before .before .before .args .start in
-    (c .x .given .0 .0 ≡ entry (e .sent) s) × (starts Reserved (e .tx .count) (e .sent) s ≡ true)
-run c = run-there _ _ _ _ (c .before .before .run-at .ensures) _ (c .x .given .1)
+opened : (c : tie.After-is-open) (ps : List Endpoint) (bs : List Binding) → c .is-open .result ≡ isOpen (of (c .before .before) ps bs)
+opened c ps bs = open-is (of (c .before .before) ps bs) _ (c .is-open .ensures)
+
+run : (c : tie.After-run2) → let a = c .before .before .before .before .before .before .args in
+    (c .before .before .before .before .is-open .result ≡ true) × (starts Reserved (a .numbers .tx .count) (tableOf (now (a .tables)) 0) (a .start) ≡ true) × (c .run2 .given .0 .0 ≡ entry (tableOf (now (a .tables)) 0) (a .start))
+run c = run-live _ _ _ _ _ (c .before .before .live .ensures) _ (c .run2 .given .1)
+
+ends : (c : tie.After-run2) → c .before .before .before .before .before .before .args .start + c .run2 .given .0 .0 .count ≤ 256
+ends c =
+    let a = c .before .before .before .before .before .before in
+    let r = run c in
+    let e = of a [] [] in
+    rw (r .2) (omega (arith, run-of Reserved (e .tx .count) (e .sent) (a .args .start) (r .1) .ends, open-says e (sym (opened (c .before .before .before .before) [] []) ∙ r .0) .tx .few))
 
 is-open-requires : tie.Need-is-open-requires
 is-open-requires c κs = search needs
 
-returns : tie.Need-returns
-returns c = drop-6 (endOf (c .before .before .args .self)) (c .before .before .args .start) (is-closed (endOf (c .before .before .args .self)) _ (c .before .is-open .ensures) (not-true _ (c .if1 .taken)))
+live-requires : tie.Need-live-requires
+live-requires c κs = search needs
 
-run-at-requires : tie.Need-run-at-requires
-run-at-requires c κs = search needs
+enum-known-run : tie.Need-enum-known-run
+enum-known-run c = search needs
 
-enum-told : tie.Need-enum-told
-enum-told c = search needs
-
-enum-known-x : tie.Need-enum-known-x
-enum-known-x c = search needs
+enum-known-run-2 : tie.Need-enum-known-run-2
+enum-known-run-2 c = search needs
 
 cast-free-run : tie.Need-cast-free-run
 cast-free-run c = search needs
 
 free-run-requires : tie.Need-free-run-requires
-free-run-requires c κs =
-    let h = run (c .before .before) in
-    let r = run-of Reserved (c .before .before .before .before .before .before .before .before .args .self .tx .count) (c .before .before .before .before .before .before .before .before .args .self .sent) (c .before .before .before .before .before .before .before .before .args .start) (h .1) in
-    rw (h .0) (omega (arith, r .ends, open-says (endOf (c .before .before .before .before .before .before .before .before .args .self)) (opened (c .before .before .before .before .before .before)) .tx .few))
+free-run-requires c κs = (ends (c .before .before), search needs, omega arith)
+
+returns : tie.Need-returns
+returns c = λ ps bs.
+    let a = c .before .before .before .before .before .before .before in
+    drop-refused (a .args .numbers) (now (a .args .tables)) (a .args .start) ps bs _ (opened (c .before .before .before .before .before) ps bs) (c .before .run .given .0 .0) (run-refused _ _ _ _ _ (c .before .before .before .live .ensures) _ (c .before .run .given .1))
 
 returns-2 : tie.Need-returns-2
-returns-2 c = drop-25 (endOf (c .before .before .before .before .before .before .args .self)) (c .before .before .before .before .before .before .args .start) (opened (c .before .before .before .before)) (nothing-there _ _ _ _ (c .before .before .run-at .ensures) (c .enum-told .given .1))
-
-returns-3 : tie.Need-returns-3
-unfolding changed
-returns-3 c = drop-ok (endOf (c .before .before .before .before .before .before .before .before .before .args .self)) (c .before .before .before .before .before .before .before .before .before .args .start) (opened (c .before .before .before .before .before .before .before)) _ _ (run (c .before .before .before)) (c .free-run .ensures)
+returns-2 c = λ ps bs.
+    let a = c .before .before .before .before .before .before .before .before .before in
+    dropped (a .args .numbers) (now (a .args .tables)) (a .args .start) ps bs _ (opened (c .before .before .before .before .before .before .before) ps bs) _ _ (run (c .before .before .before)) (c .free-run .ensures)
 
 pub drop-spec : {M : Type 1} → statement M
 drop-spec =
     tie.close
     (tie.spec
     is-open-requires
-    returns
-    run-at-requires
-    enum-told
-    enum-known-x
+    live-requires
+    enum-known-run
+    enum-known-run-2
     cast-free-run
     free-run-requires
-    returns-2
-    returns-3)
+    returns
+    returns-2)

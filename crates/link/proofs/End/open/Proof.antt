@@ -2,6 +2,7 @@ use Prim.Native.Nat.{_<_, _≤_}
 use mathlib.Core.Path.{_∙_}
 use native.Mathlib.Omega.{arith}
 use Rattle.icbmsg.proofs.Promises.{promises}
+use Rattle.link.proofs.SameEnds.{same-ends}
 use Rattle.link.proofs.OpeningCall.{laid-out, tx-refused, rx-refused, overlap, opened}
 use borrow.Author.Needs.{needs}
 use Rattle.link.proofs.End.open.Statement.{statement}
@@ -60,20 +61,20 @@ closed-requires-3 : tie.Need-closed-requires-3
 closed-requires-3 c κs = search needs
 
 returns : tie.Need-returns
-returns c = (c .closed .ensures ∙ tx-refused (c .before .before .before .before .before .before .before .args .o) _ (c .before .before .before .before .layout .ensures) _ (c .before .before .x .given .1), promises)
+returns c = (c .closed .ensures ∙ tx-refused (c .before .before .before .before .before .before .before .args .o) _ (c .before .before .before .before .layout .ensures) _ (c .before .before .x .given .1), (promises, same-ends))
 
 returns-2 : tie.Need-returns-2
-returns-2 c = (c .closed2 .ensures ∙ rx-refused (c .before .before .before .before .before .before .before .before .before .before .before .args .o) _ (c .before .before .before .before .before .before .before .before .layout .ensures) _ (c .before .before .before .before .before .before .t .given .1) _ (c .before .before .before .before .layout2 .ensures) _ (c .before .before .x2 .given .1), promises)
+returns-2 c = (c .closed2 .ensures ∙ rx-refused (c .before .before .before .before .before .before .before .before .before .before .before .args .o) _ (c .before .before .before .before .before .before .before .before .layout .ensures) _ (c .before .before .before .before .before .before .t .given .1) _ (c .before .before .before .before .layout2 .ensures) _ (c .before .before .x2 .given .1), (promises, same-ends))
 
 returns-3 : tie.Need-returns-3
 returns-3 c = (
   rw (c .fresh .ensures, c .before .before .placed-region .ensures, c .before .placed-region2 .ensures)
       (opened (c .before .before .before .before .before .before .before .before .before .before .before .before .before .before .before .before .before .before .before .before .before .args .o) _ (c .before .before .before .before .before .before .before .before .before .before .before .before .before .before .before .before .before .before .layout .ensures) _ (c .before .before .before .before .before .before .before .before .before .before .before .before .before .before .before .before .t .given .1) _ (c .before .before .before .before .before .before .before .before .before .before .before .before .before .before .layout2 .ensures) _ (c .before .before .before .before .before .before .before .before .before .before .before .before .r .given .1) (c .before .before .before .before .before .before .if1 .taken)),
-  promises,
+  (promises, same-ends),
 )
 
 returns-4 : tie.Need-returns-4
-returns-4 c = (c .closed3 .ensures ∙ overlap (c .before .before .before .before .before .before .before .before .before .before .before .before .before .before .before .before .args .o) _ (c .before .before .before .before .before .before .before .before .before .before .before .before .before .layout .ensures) _ (c .before .before .before .before .before .before .before .before .before .before .before .t .given .1) _ (c .before .before .before .before .before .before .before .before .before .layout2 .ensures) _ (c .before .before .before .before .before .before .before .r .given .1) (c .before .if1 .left), promises)
+returns-4 c = (c .closed3 .ensures ∙ overlap (c .before .before .before .before .before .before .before .before .before .before .before .before .before .before .before .before .args .o) _ (c .before .before .before .before .before .before .before .before .before .before .before .before .before .layout .ensures) _ (c .before .before .before .before .before .before .before .before .before .before .before .t .given .1) _ (c .before .before .before .before .before .before .before .before .before .layout2 .ensures) _ (c .before .before .before .before .before .before .before .r .given .1) (c .before .if1 .left), (promises, same-ends))
 
 pub open-spec : {M : Type 1} → statement M
 open-spec =

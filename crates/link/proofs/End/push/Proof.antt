@@ -1,35 +1,52 @@
-use Rattle.link.specs.Answers.{endOf}
+use Prim.Native.Nat.{ℕ}
 use mathlib.Core.Bool.{true}
+use mathlib.Core.List.{List}
 use mathlib.Core.Path.{_≡_, refl, ap, _∙_}
 use borrow.Author.Tests.{not-true, not-false}
 use lib.ListN.{length}
 use denote.Ref.{now}
 use Rattle.wire.specs.Bytes.{wrote}
-use Rattle.icmsg.specs.Rules.{Outcome as RingOutcome, pushRule as ringPush}
 use Rattle.icmsg.specs.declared.Ring.{Ring}
 use Rattle.icmsg.proofs.Indexes.{refusals}
+use Rattle.endpoints.specs.declared.Endpoint.{Endpoint}
+use Rattle.endpoints.specs.declared.Binding.{Binding}
+use Rattle.icbmsg.specs.End.{End}
+use Rattle.checks.specs.Parts.{joined}
+use Rattle.checks.proofs.OpenSays.{not-whole, is-whole}
+use Rattle.icmsg.specs.Rules.{Outcome as RingOutcome, pushRule as ringPush}
 use Rattle.icbmsg.specs.Ends.{whole, changed}
 use Rattle.icbmsg.specs.Rings.{ringOf, pushed, pushOf}
-use Rattle.link.proofs.OpenSays.{not-whole, is-whole}
-use Rattle.link.proofs.RingCalls.{ring-6, push-told}
+use Rattle.link.proofs.Clauses.{each-of-three}
+use Rattle.link.proofs.RingCalls.{ring-6, push-told, ring-refused}
 use borrow.Author.Needs.{needs}
 use Rattle.link.proofs.End.push.Statement.{statement}
 use Rattle.link.proofs.End.push.Tie as tie
+use Rattle.checks.proofs.is_whole.Reads as is-whole-reads
+use Rattle.icmsg.proofs.push.Reads as push-reads
+use Rattle.link.proofs.rings.own_index.Reads as own-index-reads
+use Rattle.link.proofs.rings.refused.Reads as refused-reads
+use Rattle.link.proofs.rings.ring_of.Reads as ring-of-reads
+use Rattle.link.proofs.rings.told.Reads as told-reads
 
-lent : (c : tie.Else1) → let a = c .before .before .before .before .before .args in whole (endOf (a .self)) (a .self .tx) (length (now (a .tx))) ≡ true
-lent c = let a = c .before .before .before .before .before .args in is-whole (endOf (a .self)) _ (c .before .before .is-open .ensures) (a .self .tx) (length (now (a .tx))) (not-false _ (c .if1 .left))
+abbrev of : tie.Start → List ℕ → List Endpoint → List Binding → End
+of c = joined (c .args .numbers)
 
-is-open-requires : tie.Need-is-open-requires
-is-open-requires c κs = search needs
+lent : (c : tie.Else1) (t : List ℕ) (ps : List Endpoint) (bs : List Binding) → let a = c .before .before .before .before .args in whole (of (c .before .before .before .before) t ps bs) (a .numbers .tx) (length (now (a .tx))) ≡ true
+lent c t ps bs = let a = c .before .before .before .before .args in is-whole (of (c .before .before .before .before) t ps bs) (a .numbers .tx) (length (now (a .tx))) _ (c .before .is-whole .ensures) (not-false _ (c .if1 .left))
 
-cast-if1 : tie.Need-cast-if1
-cast-if1 c = search needs
+is-whole-requires : tie.Need-is-whole-requires
+is-whole-requires c κs = search needs
+
+refused-requires : tie.Need-refused-requires
+refused-requires c κs = search needs
 
 returns : tie.Need-returns
 unfolding pushOf
-returns c =
+returns c = each-of-three (λ t ps bs.
     let a = c .before .before .before .before .before .args in
-    ring-6 (endOf (a .self)) _ (pushed (endOf (a .self)) (ringPush (now (a .tx)) (ringOf (a .self .align) (a .self .tx)) (a .self .write) (now (a .content)))) (λ o. o .tx) (now (a .tx)) (not-whole (endOf (a .self)) _ (c .before .before .is-open .ensures) (a .self .tx) (length (now (a .tx))) (not-true _ (c .if1 .taken))) refl
+    let e = of (c .before .before .before .before .before) t ps bs in
+    let r = ring-6 e _ (pushed e (ringPush (now (a .tx)) (ringOf (a .numbers .align) (a .numbers .tx)) (a .numbers .write) (now (a .content)))) (λ o. o .tx) (now (a .tx)) (not-whole e (a .numbers .tx) (length (now (a .tx))) _ (c .before .before .is-whole .ensures) (not-true _ (c .before .if1 .taken))) refl in
+    (ring-refused (c .refused .result) (a .numbers) t ps bs (c .refused .ensures) ∙ r .0, r .1))
 
 ring-of-requires : tie.Need-ring-of-requires
 ring-of-requires c κs = search needs
@@ -48,21 +65,21 @@ same-length c = search needs
 
 returns-2 : tie.Need-returns-2
 unfolding pushOf changed
-returns-2 c =
-    let a = c .before .before .before .before .before .before .before .before .before .before .before .before .args in
-    let r = ap (λ (g : Ring). ringPush (now (a .tx)) g (a .self .write) (now (a .content))) (c .before .before .before .before .before .ring-of .ensures) in
-    let o : RingOutcome = ringPush (now (a .tx)) (ringOf (a .self .align) (a .self .tx)) (a .self .write) (now (a .content)) in
+returns-2 c = each-of-three (λ t ps bs.
+    let a = c .before .before .before .before .before .before .before .before .before .before .before .args in
+    let r = ap (λ (g : Ring). ringPush (now (a .tx)) g (a .numbers .write) (now (a .content))) (c .before .before .before .before .before .ring-of .ensures) in
+    let o : RingOutcome = ringPush (now (a .tx)) (ringOf (a .numbers .align) (a .numbers .tx)) (a .numbers .write) (now (a .content)) in
     let p = c .before .before .before .before .push .ensures in
-    let w = push-told o (λ n h. refusals .push (now (a .tx)) (ringOf (a .self .align) (a .self .tx)) (a .self .write) (now (a .content)) n h .1) _
-    (p .0 ∙ ap (λ (x : RingOutcome). x .answer) r) (c .told .result) (c .told .ensures .0) (c .told .ensures .1) _ (endOf (a .self)) _ (lent (c .before .before .before .before .before .before .before)) (c .before .own-index .ensures) in
-    (w .0, p .1 ∙ ap (λ (x : RingOutcome). wrote (now (a .tx)) (x .region)) r ∙ ap (wrote (now (a .tx))) (w .1))
+    let w = push-told o (λ n h. refusals .push (now (a .tx)) (ringOf (a .numbers .align) (a .numbers .tx)) (a .numbers .write) (now (a .content)) n h .1) _
+    (p .0 ∙ ap (λ (x : RingOutcome). x .answer) r) (c .told .result) (c .told .ensures .0) (c .told .ensures .1) _ (of (c .before .before .before .before .before .before .before .before .before .before .before) t ps bs) _ (lent (c .before .before .before .before .before .before .before) t ps bs) (c .before .own-index .ensures) in
+    (w .0, p .1 ∙ ap (λ (x : RingOutcome). wrote (now (a .tx)) (x .region)) r ∙ ap (wrote (now (a .tx))) (w .1)))
 
 pub push-spec : {M : Type 1} → statement M
 push-spec =
     tie.close
     (tie.spec
-    is-open-requires
-    cast-if1
+    is-whole-requires
+    refused-requires
     returns
     ring-of-requires
     push-requires

@@ -1,21 +1,28 @@
+use mathlib.Core.List.{List, []}
 use mathlib.Core.Path.{_≡_, refl, ap}
 use native.Mathlib.Omega.{arith}
 use lib.ListN.{length}
 use denote.Ref.{now}
+use Rattle.endpoints.specs.declared.Endpoint.{Endpoint}
+use Rattle.endpoints.specs.declared.Binding.{Binding}
 use Rattle.icbmsg.specs.Outcome.{Outcome}
 use Rattle.icbmsg.specs.Messages.{roomOf}
-use Rattle.link.specs.Answers.{endOf}
-use Rattle.link.proofs.MessageCalls.{room-inside, this-part}
+use Rattle.checks.specs.Parts.{joined}
+use Rattle.link.proofs.MessageCalls.{room-inside, this-part, part-begins}
 use borrow.Author.Needs.{needs}
 use Rattle.link.proofs.End.room.Statement.{statement}
 use Rattle.link.proofs.End.room.Tie as tie
+use Rattle.link.proofs.End.room_place.Reads as room-place-reads
 
--- what the place says
-begins : (c : tie.After-room-place) → let a = c .before .before .args in c .room-place .result .begin ≡ roomOf (endOf (a .self)) (length (now (a .tx))) (a .start) .begin
-begins c = ap (λ (o : Outcome). o .begin) (c .room-place .ensures)
+-- the rule, and what the place says of it
+abbrev rule : tie.Start → List Endpoint → List Binding → Outcome
+rule c ps bs = roomOf (joined (c .args .numbers) (now (c .args .tables)) ps bs) (length (now (c .args .tx))) (c .args .start)
 
-sized : (c : tie.After-room-place) → let a = c .before .before .args in c .room-place .result .size ≡ roomOf (endOf (a .self)) (length (now (a .tx))) (a .start) .size
-sized c = ap (λ (o : Outcome). o .size) (c .room-place .ensures)
+begins : (c : tie.After-room-place) (ps : List Endpoint) (bs : List Binding) → c .room-place .result .begin ≡ rule (c .before .before) ps bs .begin
+begins c ps bs = ap (λ (o : Outcome). o .begin) (c .room-place .ensures ps bs)
+
+sized : (c : tie.After-room-place) (ps : List Endpoint) (bs : List Binding) → c .room-place .result .size ≡ rule (c .before .before) ps bs .size
+sized c ps bs = ap (λ (o : Outcome). o .size) (c .room-place .ensures ps bs)
 
 room-place-requires : tie.Need-room-place-requires
 room-place-requires c κs = search needs
@@ -38,13 +45,14 @@ part-tx-start c = search needs
 part-tx-end : tie.Need-part-tx-end
 part-tx-end c =
     let a = c .before .before .before .before .args in
-    omega (arith, begins (c .before .before), sized (c .before .before), room-inside (endOf (a .self)) (length (now (a .tx))) (a .start))
+    omega (arith, begins (c .before .before) [] [], sized (c .before .before) [] [], room-inside (joined (a .numbers) (now (a .tables)) [] []) (length (now (a .tx))) (a .start))
 
 returns : tie.Need-returns
 returns c =
-    let a = c .before .before .before .before .before .args in
-    let h = this-part (roomOf (endOf (a .self)) (length (now (a .tx))) (a .start)) _ _ _ (now (a .tx)) (begins (c .before .before .before)) (sized (c .before .before .before)) in
-    (h .0, (refl, h .1))
+    let p = c .before .before .before in (
+      λ ps bs. this-part (rule (p .before .before) ps bs) _ _ (begins p ps bs) (sized p ps bs) (now (p .before .before .args .tx)),
+      (refl, λ ps bs. part-begins (rule (p .before .before) ps bs) _ _ (begins p ps bs) (sized p ps bs) _),
+    )
 
 pub room-spec : {M : Type 1} → statement M
 room-spec =

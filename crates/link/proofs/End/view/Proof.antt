@@ -1,21 +1,28 @@
+use mathlib.Core.List.{List, []}
 use mathlib.Core.Path.{_≡_, refl, ap}
 use native.Mathlib.Omega.{arith}
 use lib.ListN.{length}
 use denote.Ref.{now}
+use Rattle.endpoints.specs.declared.Endpoint.{Endpoint}
+use Rattle.endpoints.specs.declared.Binding.{Binding}
 use Rattle.icbmsg.specs.Outcome.{Outcome}
 use Rattle.icbmsg.specs.Messages.{viewOf}
-use Rattle.link.specs.Answers.{endOf}
-use Rattle.link.proofs.MessageCalls.{view-inside, this-part}
+use Rattle.checks.specs.Parts.{joined}
+use Rattle.link.proofs.MessageCalls.{view-inside, this-part, part-begins}
 use borrow.Author.Needs.{needs}
 use Rattle.link.proofs.End.view.Statement.{statement}
 use Rattle.link.proofs.End.view.Tie as tie
+use Rattle.link.proofs.End.view_place.Reads as view-place-reads
 
--- what the place says
-begins : (c : tie.After-view-place) → let a = c .before .before .args in c .view-place .result .begin ≡ viewOf (endOf (a .self)) (length (now (a .rx))) (a .start) .begin
-begins c = ap (λ (o : Outcome). o .begin) (c .view-place .ensures)
+-- the rule, and what the place says of it
+abbrev rule : tie.Start → List Endpoint → List Binding → Outcome
+rule c ps bs = viewOf (joined (c .args .numbers) (now (c .args .tables)) ps bs) (length (now (c .args .rx))) (c .args .start)
 
-sized : (c : tie.After-view-place) → let a = c .before .before .args in c .view-place .result .size ≡ viewOf (endOf (a .self)) (length (now (a .rx))) (a .start) .size
-sized c = ap (λ (o : Outcome). o .size) (c .view-place .ensures)
+begins : (c : tie.After-view-place) (ps : List Endpoint) (bs : List Binding) → c .view-place .result .begin ≡ rule (c .before .before) ps bs .begin
+begins c ps bs = ap (λ (o : Outcome). o .begin) (c .view-place .ensures ps bs)
+
+sized : (c : tie.After-view-place) (ps : List Endpoint) (bs : List Binding) → c .view-place .result .size ≡ rule (c .before .before) ps bs .size
+sized c ps bs = ap (λ (o : Outcome). o .size) (c .view-place .ensures ps bs)
 
 view-place-requires : tie.Need-view-place-requires
 view-place-requires c κs = search needs
@@ -38,13 +45,14 @@ part-result-start c = search needs
 part-result-end : tie.Need-part-result-end
 part-result-end c =
     let a = c .before .before .before .before .args in
-    omega (arith, begins (c .before .before), sized (c .before .before), view-inside (endOf (a .self)) (length (now (a .rx))) (a .start))
+    omega (arith, begins (c .before .before) [] [], sized (c .before .before) [] [], view-inside (joined (a .numbers) (now (a .tables)) [] []) (length (now (a .rx))) (a .start))
 
 returns : tie.Need-returns
 returns c =
-    let a = c .before .before .before .before .before .args in
-    let h = this-part (viewOf (endOf (a .self)) (length (now (a .rx))) (a .start)) _ _ _ (now (a .rx)) (begins (c .before .before .before)) (sized (c .before .before .before)) in
-    (h .0, (refl, h .1))
+    let p = c .before .before .before in (
+      λ ps bs. this-part (rule (p .before .before) ps bs) _ _ (begins p ps bs) (sized p ps bs) (now (p .before .before .args .rx)),
+      (refl, λ ps bs. part-begins (rule (p .before .before) ps bs) _ _ (begins p ps bs) (sized p ps bs) _),
+    )
 
 pub view-spec : {M : Type 1} → statement M
 view-spec =

@@ -1,90 +1,81 @@
 use mathlib.Core.Bool.{true}
-use mathlib.Core.Path.{_≡_}
-use Prim.Native.Nat.{_+_, _*_, _≤_}
+use mathlib.Core.List.{List, []}
+use mathlib.Core.Path.{_≡_, sym, _∙_}
 use native.Mathlib.Omega.{arith}
-use borrow.Author.Tests.{not-true, not-false}
+use denote.Ref.{now}
 use Rattle.blocks.specs.Tables.{entry, startsData}
-use Rattle.blocks.proofs.Tables.{nothing-there, run-there}
+use Rattle.endpoints.specs.declared.Endpoint.{Endpoint}
+use Rattle.endpoints.specs.declared.Binding.{Binding}
+use Rattle.tables.specs.Compact.{tableOf}
 use Rattle.icbmsg.specs.Ends.{whole}
-use Rattle.link.specs.Answers.{endOf}
-use Rattle.link.proofs.OpenSays.{not-whole, is-whole}
-use Rattle.link.proofs.MessageCalls.{view-6, view-25, view-ok, PartIn, view-part}
+use Rattle.icbmsg.specs.End.{End}
+use Rattle.checks.specs.Parts.{joined}
+use Rattle.checks.proofs.OpenSays.{whole-is}
+use Rattle.checks.proofs.Runs.{run-refused, run-live, PartIn, view-part}
+use Rattle.link.proofs.MessageCalls.{view-refused, view-placed}
 use borrow.Author.Needs.{needs}
 use Rattle.link.proofs.End.view_place.Statement.{statement}
 use Rattle.link.proofs.End.view_place.Tie as tie
+use Rattle.checks.proofs.is_whole.Reads as is-whole-reads
+use Rattle.checks.proofs.received.Reads as received-reads
+use Rattle.link.proofs.messages.nowhere.Reads as nowhere-reads
 
-lent : (c : tie.Else1) → let a = c .before .before .before .args in whole (endOf (a .self)) (a .self .rx) (a .lent) ≡ true
-lent c =
-    let a = c .before .before .before .args in
-    is-whole (endOf (a .self)) _ (c .before .before .is-open .ensures) (a .self .rx) (a .lent) (not-false _ (c .if1 .left))
+abbrev of : tie.Start → List Endpoint → List Binding → End
+of c = joined (c .args .numbers) (now (c .args .tables))
 
-run : (c : tie.After-x) → let a = c .before .before .before .before .before .before .before .args in (c .x .given .0 .0 ≡ entry (a .self .held) (a .start)) × (startsData (a .self .rx .count) (a .self .rx .size) (a .self .held) (a .start) ≡ true)
-run c = run-there _ _ _ _ (c .before .before .data-at .ensures) _ (c .x .given .1)
+lent : (c : tie.After-is-whole) (ps : List Endpoint) (bs : List Binding) → let a = c .before .args in c .is-whole .result ≡ whole (of (c .before) ps bs) (a .numbers .rx) (a .lent)
+lent c ps bs = let a = c .before .args in whole-is (of (c .before) ps bs) (a .numbers .rx) (a .lent) _ (c .is-whole .ensures)
 
-part : (c : tie.After-x) → let a = c .before .before .before .before .before .before .before .args in PartIn (a .self .rx) (a .start) (c .x .given .0 .0 .count) (a .lent) × (c .x .given .0 .0 .length + 4 ≤ c .x .given .0 .0 .count * a .self .rx .size)
-part c =
-    let a = c .before .before .before .before .before .before .before .args in
-    rw (run c .0) (view-part (endOf (a .self)) (a .lent) (a .start) (lent (c .before .before .before .before)) (run c .1))
+run : (c : tie.After-x2) → let a = c .before .before .before .before .before .args in
+    (c .before .before .before .before .is-whole .result ≡ true) × (startsData (a .numbers .rx .count) (a .numbers .rx .size) (tableOf (now (a .tables)) 1568) (a .start) ≡ true) × (c .x2 .given .0 .0 ≡ entry (tableOf (now (a .tables)) 1568) (a .start))
+run c = run-live _ _ _ _ _ (c .before .before .received .ensures) _ (c .x2 .given .1)
 
-is-open-requires : tie.Need-is-open-requires
-is-open-requires c κs = search needs
+part : (c : tie.After-x2) → let a = c .before .before .before .before .before .args in PartIn (a .numbers .rx) (a .start) (c .x2 .given .0 .0 .count) (a .lent)
+part c = let a = c .before .before .before .before .before in let r = run c in rw (r .2) (view-part (of a [] []) (a .args .lent) (a .args .start) (sym (lent (c .before .before .before .before) [] []) ∙ r .0) (r .1) .0)
 
-cast-if1 : tie.Need-cast-if1
-cast-if1 c = search needs
+is-whole-requires : tie.Need-is-whole-requires
+is-whole-requires c κs = search needs
 
-nowhere-requires : tie.Need-nowhere-requires
-nowhere-requires c κs = search needs
-
-returns : tie.Need-returns
-returns c =
-    let a = c .before .before .before .before .args in
-    rw (c .nowhere .ensures) (view-6 (endOf (a .self)) (a .lent) (a .start) (not-whole (endOf (a .self)) _ (c .before .before .before .is-open .ensures) (a .self .rx) (a .lent) (not-true _ (c .before .if1 .taken))))
-
-data-at-requires : tie.Need-data-at-requires
-data-at-requires c κs = search needs
-
-enum-told : tie.Need-enum-told
-enum-told c = search needs
-
-nowhere-requires-2 : tie.Need-nowhere-requires-2
-nowhere-requires-2 c κs = search needs
+received-requires : tie.Need-received-requires
+received-requires c κs = search needs
 
 enum-known-x : tie.Need-enum-known-x
 enum-known-x c = search needs
 
-mul-t16 : tie.Need-mul-t16
-mul-t16 c = let p = part (c .before .before) .0 in omega (arith, p .product, p .most)
+nowhere-requires : tie.Need-nowhere-requires
+nowhere-requires c κs = search needs
 
-add-t17 : tie.Need-add-t17
-add-t17 c = let p = part (c .before .before .before) .0 in omega (arith, p .inside, p .most)
+enum-known-x-2 : tie.Need-enum-known-x-2
+enum-known-x-2 c = search needs
 
-add-t18 : tie.Need-add-t18
-add-t18 c = let p = part (c .before .before .before) .0 in omega (arith, p .inside, p .most, p .four)
+mul-t13 : tie.Need-mul-t13
+mul-t13 c = let p = part (c .before .before) in omega (arith, p .product, p .most)
+
+add-t14 : tie.Need-add-t14
+add-t14 c = let p = part (c .before .before .before) in omega (arith, p .inside, p .most)
+
+add-t15 : tie.Need-add-t15
+add-t15 c = let p = part (c .before .before .before) in omega (arith, p .inside, p .most, p .four)
+
+returns : tie.Need-returns
+returns c = λ ps bs.
+    let a = c .before .before .before .before .before .before .before .args in
+    rw (c .nowhere .ensures) (view-refused (a .numbers) (now (a .tables)) (a .lent) (a .start) ps bs _ (lent (c .before .before .before .before .before .before) ps bs) (c .before .before .x .given .0 .0) (run-refused _ _ _ _ _ (c .before .before .before .before .received .ensures) _ (c .before .before .x .given .1)))
 
 returns-2 : tie.Need-returns-2
-returns-2 c =
-    let a = c .before .before .before .before .before .before .before .before .args in
-    rw (c .nowhere2 .ensures) (view-25 (endOf (a .self)) (a .lent) (a .start) (lent (c .before .before .before .before .before)) (nothing-there _ _ _ _ (c .before .before .before .data-at .ensures) (c .before .enum-told .given .1)))
-
-returns-3 : tie.Need-returns-3
-returns-3 c =
-    let a = c .before .before .before .before .before .before .before .before .before .before .args in
-    view-ok (endOf (a .self)) (a .lent) (a .start) (lent (c .before .before .before .before .before .before .before)) _ (run (c .before .before .before))
+returns-2 c = λ ps bs. let a = c .before .before .before .before .before .before .before .before .args in view-placed (a .numbers) (now (a .tables)) (a .lent) (a .start) ps bs _ (lent (c .before .before .before .before .before .before .before) ps bs) _ (run (c .before .before .before))
 
 pub view-place-spec : {M : Type 1} → statement M
 view-place-spec =
     tie.close
     (tie.spec
-    is-open-requires
-    cast-if1
-    nowhere-requires
-    returns
-    data-at-requires
-    enum-told
-    nowhere-requires-2
+    is-whole-requires
+    received-requires
     enum-known-x
-    mul-t16
-    add-t17
-    add-t18
-    returns-2
-    returns-3)
+    nowhere-requires
+    enum-known-x-2
+    mul-t13
+    add-t14
+    add-t15
+    returns
+    returns-2)

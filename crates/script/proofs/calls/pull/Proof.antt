@@ -13,7 +13,7 @@ slice-relend-prefix-pull : tie.Need-slice-relend-prefix-pull
 slice-relend-prefix-pull c = search needs
 
 slice-aggregate-pull : tie.Need-slice-aggregate-pull
-slice-aggregate-pull c = length-first _ _ (c .before .before .least .ensures .2)
+slice-aggregate-pull c = length-first _ _ (c .before .before .before .least .ensures .2)
 
 pull-requires : tie.Need-pull-requires
 pull-requires c κs = search needs
@@ -29,10 +29,11 @@ same-length-2 c = search needs
 
 returns : tie.Need-returns
 returns c =
-    let a = c .before .before .before .before .before .before .before .before .before .before .before .args in
-    let m = c .before .before .before .before .before .before .before .before .least .ensures .0 in
-    let p = c .before .before .before .before .before .pull in
-    (pulled-as (endOf (a .end)) (now (a .rx)) (now (a .buffer)) (a .n) _ m (c .of-ring-call .ensures) (p .ensures .0), pulled-bytes (endOf (a .end)) (now (a .rx)) (now (a .buffer)) (a .n) _ m _ _ (p .ensures .1 .0) (p .ensures .1 .1))
+    let a = c .before .before .before .before .before .before .before .before .before .before .before .before .args in
+    let e = a .end in
+    let m = c .before .before .before .before .before .before .before .before .before .least .ensures .0 in
+    let p = c .before .before .before .before .before .pull .ensures in
+    (pulled-as (endOf e) (now (a .rx)) (now (a .buffer)) (a .n) _ m (c .of-ring-call .ensures) (p .0 (e .tables) (e .endpoints) (e .bindings)), pulled-bytes (endOf e) (now (a .rx)) (now (a .buffer)) (a .n) _ m _ _ (p .1 .0 (e .tables) (e .endpoints) (e .bindings)) (p .1 .1 (e .tables) (e .endpoints) (e .bindings)))
 
 pub pull-spec : {M : Type 1} → statement M
 pull-spec =

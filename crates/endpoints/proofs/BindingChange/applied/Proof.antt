@@ -1,0 +1,43 @@
+use mathlib.Core.Path.{_≡_}
+use native.Mathlib.Omega.{arith}
+use lib.ListN.{length}
+use Rattle.endpoints.proofs.Changes.{put-there, put-beyond}
+use borrow.Author.Needs.{needs}
+use Rattle.endpoints.proofs.BindingChange.applied.Statement.{statement}
+use Rattle.endpoints.proofs.BindingChange.applied.Tie as tie
+
+enum-known-place : tie.Need-enum-known-place
+enum-known-place c = search needs
+
+enum-told : tie.Need-enum-told
+enum-told c = search needs
+
+returns : tie.Need-returns
+returns c = search needs
+
+mul-bindings : tie.Need-mul-bindings
+mul-bindings c = search needs
+
+array-set-from-bindings : tie.Need-array-set-from-bindings
+array-set-from-bindings c = search needs
+
+returns-2 : tie.Need-returns-2
+returns-2 c = put-there _ _ _ _ (c .before .before .before .place .given .1)
+
+returns-3 : tie.Need-returns-3
+returns-3 c =
+    let a = c .before .before .before .before .args in
+    let n : length (a .t2) ≡ 8 = search needs in
+    put-beyond _ _ (a .t2) _ (c .before .before .place .given .1) (omega (arith, n, c .if1 .left))
+
+pub applied-spec : {M : Type 1} → statement M
+applied-spec =
+    tie.close
+    (tie.spec
+    enum-known-place
+    enum-told
+    returns
+    mul-bindings
+    array-set-from-bindings
+    returns-2
+    returns-3)

@@ -1,0 +1,4 @@
+pub mod Runs
+pub mod Loops
+pub mod Bits
+pub mod Entries
