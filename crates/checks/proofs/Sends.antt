@@ -1,7 +1,7 @@
 -- A send: each way out of its decision, by the facts that the code has there.
 use Prim.Native.Nat.{ℕ, _+_, _*_, _≤_, _<_}
 use mathlib.Core.Bool.{Bool, true, false, _&&_}
-use mathlib.Core.Path.{_≡_, sym, _∙_}
+use mathlib.Core.Path.{_≡_}
 use mathlib.Core.List.{List}
 use lib.Dec.{eqb}
 use borrow.Author.Tests.{le-leb, lt-leb}
@@ -16,19 +16,16 @@ use Rattle.endpoints.specs.declared.Endpoint.{Endpoint}
 use Rattle.endpoints.specs.declared.Binding.{Binding}
 use Rattle.tables.specs.Compact.{tableOf}
 use Rattle.icbmsg.specs.Outcome.{Outcome, refused, check}
-use Rattle.icbmsg.specs.Ends.{openNumbers, isOpen, whole}
+use Rattle.icbmsg.specs.Ends.{openNumbers, isOpen}
 use Rattle.icbmsg.specs.Messages.{sendOf}
 use Rattle.icbmsg.specs.End.{End}
 use Rattle.icbmsg.specs.declared.Numbers.{Numbers}
 use Rattle.checks.specs.Parts.{joined}
 use Rattle.checks.specs.Decisions.{SendAs}
 use Rattle.checks.specs.declared.Sending.the-variants.{Fits}
+use Rattle.checks.proofs.OpenSays.{is-whole}
 
 module _ (n : Numbers) (t : List ℕ) (ps : List Endpoint) (l s a k : ℕ) (w : Bool) (q : w ≡ (openNumbers (n .align) (n .tx) (n .rx) (n .write) (n .read) && eqb l (n .tx .bytes))) (bs : List Binding) where
-  pub sent-whole : w ≡ true → whole (joined n t ps bs) (n .tx) l ≡ true
-  unfolding isOpen
-  sent-whole h = sym q ∙ h
-
   -- 6, 25
   pub send-refused : (x : Refusal) → ((e : End) (o : Outcome) → check w 6 e (check (starts Reserved (n .tx .count) (tableOf t 0) s) 25 e o) ≡ refused e (numberOf x)) →
       sendOf (joined n t ps bs) l s a k ≡ refused (joined n t ps bs) (numberOf x)
@@ -48,4 +45,4 @@ module _ (n : Numbers) (t : List ℕ) (ps : List Endpoint) (l s a k : ℕ) (w : 
       pub send-fits : (b m : ℕ) → 1 ≤ n .tx .size → b ≡ a → m ≡ blocksFor (n .tx .size) k → k + 4 ≤ x .count * n .tx .size → SendAs (Fits b (x .count) m) (joined n t ps bs) l s a k
       unfolding sendOf isOpen
       send-fits b m z c d i =
-          (rw (← q, h, p, r, ← y, le-leb (k + 4) (x .count * n .tx .size) i, ← d), c, sent-whole h, p, rw y, rw d (blocks-one (n .tx .size) k z), rw d (blocks-least (n .tx .size) k (x .count) i z), i)
+          (rw (← q, h, p, r, ← y, le-leb (k + 4) (x .count * n .tx .size) i, ← d), c, is-whole (joined n t ps bs) (n .tx) l w q h, p, rw y, rw d (blocks-one (n .tx .size) k z), rw d (blocks-least (n .tx .size) k (x .count) i z), i)

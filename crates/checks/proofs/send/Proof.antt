@@ -12,7 +12,7 @@ use Rattle.icbmsg.specs.End.{End}
 use Rattle.checks.specs.Parts.{joined}
 use Rattle.checks.proofs.OpenSays.{is-whole, whole-says, open-says}
 use Rattle.checks.proofs.Runs.{run-refused, run-live, PartIn, room-part}
-use Rattle.checks.proofs.Sends.{send-refused, send-15, send-23, send-fits, sent-whole}
+use Rattle.checks.proofs.Sends.{send-refused, send-15, send-23, send-fits}
 use borrow.Author.Needs.{needs}
 use Rattle.checks.proofs.send.Statement.{statement}
 use Rattle.checks.proofs.send.Tie as tie
@@ -37,13 +37,13 @@ part c =
     let e = of (start (c .before .before)) in
     let a = start (c .before .before) .args in
     let r = run c in
-    rw (r .2) (room-part e (a .lent) (a .s) (sent-whole (a .n) (now (a .t)) (a .endpoints) (a .lent) (a .s) 0 0 _ (c .before .before .before .is-whole .ensures) [] (r .0)) (r .1))
+    rw (r .2) (room-part e (a .lent) (a .s) (is-whole e (a .n .tx) (a .lent) _ (c .before .before .before .is-whole .ensures) (r .0)) (r .1))
 
 size : (c : tie.After-run2) → 4 ≤ start (c .before .before) .args .n .tx .size
 size c =
     let e = of (start (c .before .before)) in
     let a = start (c .before .before) .args in
-    open-says e (whole-says e (a .n .tx) (a .lent) (sent-whole (a .n) (now (a .t)) (a .endpoints) (a .lent) (a .s) 0 0 _ (c .before .before .before .is-whole .ensures) [] (run c .0)) .is-open) .tx .size
+    open-says e (whole-says e (a .n .tx) (a .lent) (is-whole e (a .n .tx) (a .lent) _ (c .before .before .before .is-whole .ensures) (run c .0)) .is-open) .tx .size
 
 is-whole-requires : tie.Need-is-whole-requires
 is-whole-requires c κs = search needs
