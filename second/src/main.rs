@@ -1,42 +1,25 @@
 //! Compares an independent second implementation of Petrelknob with the
-//! proved code.
+//! proved code, and shows regions and scripts in words.
 
-mod end;
-mod fault;
-mod layout;
-mod layout_cases;
-mod layout_inputs;
-mod proved;
-mod random;
-mod refusal;
-mod report;
-mod ring;
-mod ring_calls;
-mod ring_cases;
-mod ring_faults;
-mod ring_hostile;
-mod ring_inputs;
-mod ring_link;
-mod script;
-mod tally;
-mod traffic;
-mod twin;
+mod compare;
+mod link;
+mod look;
 
 use std::env;
 use std::fs;
 use std::process::ExitCode;
 use std::time::{Duration, SystemTime, UNIX_EPOCH};
 
-use fault::Fault;
-use report::Report;
-use traffic::Opponent;
+use compare::traffic::{self, Opponent};
+use compare::{layout, ring, Report, Settings};
+use link::fault::Fault;
 
 type Comparison = fn(&Settings, &mut Report);
 
 /// The comparisons there are, by the word that asks for one alone.
 const COMPARISONS: [(&str, Comparison); 4] = [
-    ("layout", layout_cases::run),
-    ("ring", ring_cases::run),
+    ("layout", layout::run),
+    ("ring", ring::run),
     ("end", traffic::run),
     ("faults", traffic::run_faults),
 ];
@@ -59,18 +42,6 @@ script          runs one call script with the slices of script_main and shows th
 --fault NAME    traffic against the second implementation itself with this fault, as listed by
                 faults, to see what a failure looks like
 N is decimal.";
-
-pub struct Settings {
-    /// Decides all random inputs.
-    pub seed: u64,
-    /// Random inputs of the layout and of the ring comparison, divided among
-    /// their mixtures.
-    pub cases: u64,
-    /// Calls of the random traffic, divided among its kinds.
-    pub calls: u64,
-    /// What the traffic is compared with.
-    pub opponent: Opponent,
-}
 
 /// What is to be done.
 enum Task {
@@ -133,7 +104,7 @@ fn script(file: &str, settings: &Settings) -> bool {
     };
     let case = traffic::in_script_main(script);
     let made = case.run(settings.opponent);
-    print!("{}", traffic::show(&case, &made, settings.opponent));
+    print!("{}", case.show(&made, settings.opponent));
     if made.alike() {
         println!("Both sides agree.");
     } else {

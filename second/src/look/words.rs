@@ -1,0 +1,77 @@
+//! Bytes, control messages and outcomes in words.
+
+use crate::link::end::{Control, START_CONTENT};
+use crate::link::refusal::Refusal;
+
+/// Bytes as text, in quotes; what is not printable is escaped. Of many the
+/// first are shown.
+pub fn text(bytes: &[u8], most: usize) -> String {
+    let shown = &bytes[..bytes.len().min(most)];
+    let more = if bytes.len() > most { ".." } else { "" };
+    format!("\"{}\"{more}", shown.escape_ascii())
+}
+
+/// Bytes as two digits each; of many the first.
+pub fn hex(bytes: &[u8], most: usize) -> String {
+    let shown = bytes.iter().take(most).map(|byte| format!("{byte:02x}"));
+    let more = (bytes.len() > most).then(|| "..".to_string());
+    shown.chain(more).collect::<Vec<_>>().join(" ")
+}
+
+/// Text where it can be read as such, else digits.
+pub fn text_or_hex(bytes: &[u8], most: usize) -> String {
+    let zeros = bytes.iter().rev().take_while(|&&byte| byte == 0).count();
+    let (readable, _) = bytes.split_at(bytes.len() - zeros);
+    let is_text = readable
+        .iter()
+        .all(|byte| (b' '..=b'~').contains(byte) || byte.is_ascii_whitespace());
+    if is_text && !readable.is_empty() {
+        text(bytes, most)
+    } else {
+        hex(bytes, most)
+    }
+}
+
+/// What a number comes to: accepted, or refused and why.
+pub fn outcome(number: u32) -> String {
+    if number == 0 {
+        return "accepted".to_string();
+    }
+    let mut refusals = Refusal::ALL.iter();
+    match refusals.find(|&&refusal| refusal as u32 == number) {
+        Some(&refusal) => refused(refusal),
+        None => format!("refused with {number}, which is no refusal's number"),
+    }
+}
+
+pub fn refused(refusal: Refusal) -> String {
+    format!("refused with {}: {}", refusal as u32, refusal.sentence())
+}
+
+/// What the content of a packet says to an end that takes it for a control
+/// message.
+pub fn content(bytes: &[u8]) -> String {
+    if bytes == START_CONTENT {
+        return "start packet".to_string();
+    }
+    match Control::read(bytes) {
+        Ok(control) => self::control(control),
+        Err(Refusal::UnknownKind) => format!("unknown kind {}", bytes[0]),
+        Err(_) => "too short for a control message".to_string(),
+    }
+}
+
+pub fn control(control: Control) -> String {
+    let Control {
+        kind,
+        address,
+        block,
+    } = control;
+    format!("{}, address {address}, block {block}", kind.name())
+}
+
+/// `1 block`, `2 blocks`.
+pub fn counted(count: usize, what: &str) -> String {
+    let ending = if count == 1 { "" } else { "s" };
+    format!("{count} {what}{ending}")
+}
