@@ -1,5 +1,6 @@
 -- Answers on plain numbers.
 use Prim.Native.Nat.{ℕ}
+use mathlib.Core.Bool.{Bool, true, false}
 use mathlib.Core.List.{List, [], _∷_}
 use lib.ListN.{length, take}
 use Rattle.wire.specs.Bytes.{straight, writes, wrote}
@@ -18,3 +19,8 @@ layoutNumbers y = y .begin ∷ y .dataLength ∷ y .blocksBegin ∷ y .blockSize
 abbrev pub ringNumbers : ℕ → Answer → List ℕ
 ringNumbers own (refused n) = 0 ∷ own ∷ []
 ringNumbers own (accepted k i) = k ∷ i ∷ []
+
+-- the number of a yes or no
+abbrev pub yesNumber : Bool → ℕ
+yesNumber true = 1
+yesNumber false = 0

@@ -1,4 +1,4 @@
--- Push and pull on the numbers that a region is opened with: checks 1 to 4 of its layout, then 6, then the ring's own.
+-- Start, push and pull on the numbers that a region is opened with: checks 1 to 4 of its layout, then 6, then the ring's own.
 use Prim.Native.Nat.{ℕ, _-_}
 use mathlib.Core.List.{List}
 use mathlib.Core.Path.{_≡_}
@@ -8,7 +8,7 @@ use Rattle.wire.specs.Choice.{check, passed}
 use Rattle.wire.specs.Reads.{answer}
 use Rattle.refusal.specs.Numbers.{numberOf}
 use Rattle.region.specs.Layout.{layout}
-use Rattle.icmsg.specs.Rules.{Outcome, refusal, pushRule, pullRule}
+use Rattle.icmsg.specs.Rules.{Outcome, refusal, startRule, pushRule, pullRule}
 use Rattle.icmsg.specs.declared.Ring.{Ring}
 use Rattle.panel.specs.declared.Opened.{Opened}
 use Rattle.panel.specs.declared.Opened.the-variants.{Whole, Refused}
@@ -20,6 +20,10 @@ openNumber begin end l r a n = passed (layout begin end l r a .number) (check (e
 -- the ring in it; a slice's first byte is at begin
 abbrev pub ringIn : ℕ → ℕ → ℕ → ℕ → ℕ → Ring
 ringIn begin end l r a = record { begin = layout begin end l r a .begin - begin; align = a; size = layout begin end l r a .dataLength }
+
+-- in a slice of n bytes
+unfoldable pub startCall : ℕ → ℕ → ℕ → ℕ → ℕ → ℕ → Outcome
+startCall begin end l r a n = passed (openNumber begin end l r a n) (startRule n (ringIn begin end l r a)) refusal
 
 unfoldable pub pushCall : ℕ → ℕ → ℕ → ℕ → ℕ → ℕ → List ℕ → List ℕ → Outcome
 pushCall begin end l r a own s c = passed (openNumber begin end l r a (length s)) (pushRule s (ringIn begin end l r a) own c) refusal

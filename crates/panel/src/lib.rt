@@ -1,11 +1,12 @@
-// The interface for C: layout, push and pull on plain numbers and slices. include/petrelknob.h declares it.
+// The interface for C: layout, start, push and pull on plain numbers and slices. include/petrelknob.h declares it.
 ghost use mathlib.Core.Path.{_≡_};
 ghost use lib.ListN.{length};
-ghost use Rattle.wire.specs.Bytes.{wrote};
+ghost use Rattle.wire.specs.Bytes.{wrote, same};
 ghost use Rattle.region.specs.Layout.{layout};
+ghost use Rattle.icmsg.specs.Ring.{startContent};
 ghost use Rattle.icmsg.specs.Rules.{answerOf, answerNumber};
-ghost use Rattle.panel.specs.Answers.{answered, layoutNumbers, ringNumbers};
-ghost use Rattle.panel.specs.Calls.{openNumber, ringIn, pushCall, pullCall, openedNumber, OpensRing};
+ghost use Rattle.panel.specs.Answers.{answered, layoutNumbers, ringNumbers, yesNumber};
+ghost use Rattle.panel.specs.Calls.{openNumber, ringIn, startCall, pushCall, pullCall, openedNumber, OpensRing};
 use icmsg::Ring;
 use icmsg::RingAnswer;
 use refusal::Refusal;
@@ -94,6 +95,38 @@ fn give(answer: &mut [u32], own: u32, a: RingAnswer) -> u32
             x.number()
         }
     }
+}
+
+// Starts the region's ring: both indexes zero, then the packet with the start content. There is no own index before it.
+#[no_mangle]
+pub extern "C" fn petrelknob_start(
+    begin: u32,
+    end: u32,
+    local: u32,
+    remote: u32,
+    alignment: u32,
+    region: &mut [u8],
+    answer: &mut [u32],
+) -> u32
+    ensures number { λ r. ⌜ r ≡ answerNumber (startCall begin end local remote alignment (length (now (region .entry))) .answer) ⌝ }
+    ensures region { λ _. ⌜ now (region .exit) ≡ wrote (now (region .entry)) (startCall begin end local remote alignment (length (now (region .entry))) .region) ⌝ }
+    ensures numbers { λ _. ⌜ now (answer .exit) ≡ answered (now (answer .entry)) (ringNumbers 0 (startCall begin end local remote alignment (length (now (region .entry))) .answer)) ⌝ }
+{
+    match open_ring(begin, end, local, remote, alignment, region.len()) {
+        Opened::Refused(x) => give(answer, 0, RingAnswer::Refused(x)),
+        Opened::Whole(ring) => {
+            let a = icmsg::start(region, ring);
+            give(answer, 0, a)
+        }
+    }
+}
+
+// 1 where content is exactly the start content, else 0.
+#[no_mangle]
+pub extern "C" fn petrelknob_is_start(content: &[u8]) -> u32
+    ensures { λ r. ⌜ r ≡ yesNumber (same (now (content .entry)) startContent) ⌝ }
+{
+    if icmsg::is_start(content) { 1 } else { 0 }
 }
 
 // Puts a packet with the content on the region's ring, at the own write index.
