@@ -1,6 +1,7 @@
 //! The comparison of the implementation in `link` with the proved code.
 
 pub mod layout;
+pub mod looking;
 mod proved;
 mod random;
 mod report;

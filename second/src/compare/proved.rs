@@ -14,6 +14,20 @@ extern "C" {
         answer_length: usize,
     ) -> u32;
 
+    fn petrelknob_start(
+        begin: u32,
+        end: u32,
+        local_blocks: u32,
+        remote_blocks: u32,
+        alignment: u32,
+        region: *mut u8,
+        region_length: usize,
+        answer: *mut u32,
+        answer_length: usize,
+    ) -> u32;
+
+    fn petrelknob_is_start(content: *const u8, content_length: usize) -> u32;
+
     fn petrelknob_push(
         begin: u32,
         end: u32,
@@ -74,6 +88,32 @@ pub fn layout(request: &Request, answer: &mut [u32]) -> u32 {
             answer.len(),
         )
     }
+}
+
+/// Empties the ring in the raw region and puts the start content on it. Returns
+/// and answers as a push does; refused, the own index is 0.
+pub fn start(request: &Request, region: &mut [u8], answer: &mut [u32]) -> u32 {
+    // SAFETY: pointers and lengths are those of slices lent for this call, and
+    // the function writes nowhere else.
+    unsafe {
+        petrelknob_start(
+            request.begin,
+            request.end,
+            request.local_blocks,
+            request.remote_blocks,
+            request.alignment,
+            region.as_mut_ptr(),
+            region.len(),
+            answer.as_mut_ptr(),
+            answer.len(),
+        )
+    }
+}
+
+/// Returns 1 if the content is that of a start, else 0.
+pub fn is_start(content: &[u8]) -> u32 {
+    // SAFETY: pointer and length are those of one slice, which is only read.
+    unsafe { petrelknob_is_start(content.as_ptr(), content.len()) }
 }
 
 /// Puts the content on the ring in the raw region. Returns 0 or the refusal

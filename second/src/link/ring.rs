@@ -16,12 +16,35 @@ pub const UNIT: usize = 4;
 /// Bytes of a packet before its content: the length, then two reserved ones.
 const PACKET_HEADER: usize = 4;
 
+/// The first packet's content on every ring.
+const START_CONTENT: [u8; 13] = [
+    0x45, 0x6d, 0x31, 0x6c, 0x31, 0x4b, 0x30, 0x72, 0x6e, 0x33, 0x6c, 0x69, 0x34,
+];
+
 /// What an accepted call reports.
 pub struct Moved {
     /// Bytes of the packet's content, whether or not all of them were copied.
     pub length: u32,
     /// The caller's own index from now on.
     pub own_index: u32,
+}
+
+/// Empties the ring and puts the start content on it.
+pub fn start(request: &Request, region: &mut [u8]) -> Result<Moved, Refusal> {
+    start_at(request, 0, region)
+}
+
+/// The same with the packet at an index, which is 0 unless a fault is planted.
+pub fn start_at(request: &Request, index: u32, region: &mut [u8]) -> Result<Moved, Refusal> {
+    let ring = Ring::find(request, region)?;
+    *ring.read_index = [0; UNIT];
+    *ring.write_index = [0; UNIT];
+    push(request, index, region, &START_CONTENT)
+}
+
+/// True if a content is exactly that of a start.
+pub fn is_start(content: &[u8]) -> bool {
+    content == START_CONTENT
 }
 
 /// Puts a packet with this content on the ring, at the writer's index.

@@ -2,5 +2,6 @@
 //! bytes of a region.
 
 mod record;
+pub mod region;
 pub mod script;
 mod words;

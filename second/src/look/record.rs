@@ -2,7 +2,7 @@
 
 use std::fmt::{self, Display, Formatter};
 
-use super::words::{content, hex, text};
+use super::words::{content, hex, text, text_or_hex};
 use crate::link::end::Slice;
 use crate::link::script::Record;
 
@@ -40,7 +40,8 @@ impl Display for Record<'_> {
                     Slice::Receive => "receive",
                     _ => "transmit",
                 };
-                write!(f, "write {slice} bytes at {offset}: {}", hex(bytes, SHOWN))?;
+                let shown = text_or_hex(bytes, SHOWN);
+                write!(f, "write {slice} bytes at {offset}: {shown}")?;
                 shown_length(f, bytes)
             }
             Record::Lend { transmit, receive } => {

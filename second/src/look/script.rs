@@ -1,8 +1,10 @@
 //! Rows and scripts in words.
 
-use super::words;
+use super::words::{self, counted};
 use crate::link::end::{Control, Opening};
-use crate::link::script::{Ran, Row, Stop, ROW_NAMES};
+use crate::link::script::{
+    BodyLength, Ran, Row, Stop, OPENING_BYTES, RECORD_HEADER, ROW_BYTES, ROW_NAMES,
+};
 
 /// The rows of one side, with its name.
 pub type Side<'a> = (&'a str, &'a [Row]);
@@ -25,7 +27,7 @@ pub fn script(script: &[u8], sides: [Side; 2], ran: &Ran) -> String {
             }
         }
     }
-    text + &end_line(script, ran) + "\n"
+    text + &end_line(ran) + "\n"
 }
 
 /// Where the opening and each record begin, and what they say.
@@ -44,19 +46,36 @@ fn lines(script: &[u8]) -> Vec<(usize, String)> {
 }
 
 /// Where a run ended, and why if it stopped early.
-pub fn end_line(script: &[u8], ran: &Ran) -> String {
-    let Ran { at, stop, .. } = ran;
+fn end_line(ran: &Ran) -> String {
+    let at = ran.at;
+    match ran.stop {
+        Some(stop) => format!("stops at byte {at}: {}", why(stop)),
+        None => format!("ends at byte {at}, with the script"),
+    }
+}
+
+fn why(stop: Stop) -> String {
+    let cut = |what: &str, length: usize, left: usize| {
+        let length = counted(length, "byte");
+        let are = if left == 1 { "is" } else { "are" };
+        format!("{what} of {length} where {left} {are} left")
+    };
     match stop {
-        None => format!("ends at byte {at}, the script's end"),
-        Some(stop) => {
-            let left = match stop {
-                Stop::Output { .. } | Stop::Opening { .. } => String::new(),
-                _ => {
-                    let left = words::counted(script.len() - at, "byte");
-                    format!(" ({left} not run)")
-                }
+        Stop::Opening { left } => cut("an opening", OPENING_BYTES, left),
+        Stop::RecordHeader { left } => cut("a record header", RECORD_HEADER, left),
+        Stop::Record { length, left } => cut("a record", length, left),
+        Stop::UnknownKind(kind) => format!("unknown kind {kind}"),
+        Stop::Body { length, wanted } => {
+            let wanted = match wanted {
+                BodyLength::Any => "any number are".to_string(),
+                BodyLength::Exactly(wanted) => format!("{wanted} are"),
+                BodyLength::AtLeast(wanted) => format!("{wanted} or more are"),
             };
-            format!("stops at byte {at}: {stop}{left}")
+            let length = counted(length, "byte");
+            format!("body of {length} where {wanted} wanted")
+        }
+        Stop::Output { left } => {
+            format!("the output is full: {}", cut("a row", ROW_BYTES, left))
         }
     }
 }
@@ -123,9 +142,14 @@ fn control_bytes(values: &[u32]) -> Option<(Vec<u8>, Control)> {
 }
 
 fn opening_line(opening: &Opening) -> String {
-    format!(
-        "opening, transmit {}; receive {}",
-        opening.transmit(),
-        opening.receive()
-    )
+    let [transmit, receive] = [opening.transmit(), opening.receive()].map(|region| {
+        format!(
+            "0x{:08x} to 0x{:08x} with {}",
+            region.begin,
+            region.end,
+            counted(region.local_blocks as usize, "block")
+        )
+    });
+    let alignment = opening.alignment;
+    format!("opening, transmit {transmit}, receive {receive}, alignment {alignment}")
 }

@@ -1,7 +1,8 @@
 //! Bytes, control messages and outcomes in words.
 
-use crate::link::end::{Control, START_CONTENT};
+use crate::link::end::Control;
 use crate::link::refusal::Refusal;
+use crate::link::ring::is_start;
 
 /// Bytes as text, in quotes; what is not printable is escaped. Of many the
 /// first are shown.
@@ -18,17 +19,16 @@ pub fn hex(bytes: &[u8], most: usize) -> String {
     shown.chain(more).collect::<Vec<_>>().join(" ")
 }
 
-/// Text where it can be read as such, else digits.
+/// Text where it can be read as such, else digits; zeros may end a text.
 pub fn text_or_hex(bytes: &[u8], most: usize) -> String {
-    let zeros = bytes.iter().rev().take_while(|&&byte| byte == 0).count();
-    let (readable, _) = bytes.split_at(bytes.len() - zeros);
-    let is_text = readable
-        .iter()
-        .all(|byte| (b' '..=b'~').contains(byte) || byte.is_ascii_whitespace());
-    if is_text && !readable.is_empty() {
-        text(bytes, most)
-    } else {
-        hex(bytes, most)
+    let is_zero = |byte: &&u8| **byte == 0;
+    let zeros = bytes.iter().rev().take_while(is_zero).count();
+    let readable = &bytes[..bytes.len() - zeros];
+    let is_text = |byte: &u8| byte.is_ascii_graphic() || byte.is_ascii_whitespace();
+    match bytes {
+        [] => "no bytes".to_string(),
+        _ if readable.is_empty() || !readable.iter().all(is_text) => hex(bytes, most),
+        _ => text(bytes, most),
     }
 }
 
@@ -51,7 +51,7 @@ pub fn refused(refusal: Refusal) -> String {
 /// What the content of a packet says to an end that takes it for a control
 /// message.
 pub fn content(bytes: &[u8]) -> String {
-    if bytes == START_CONTENT {
+    if is_start(bytes) {
         return "start packet".to_string();
     }
     match Control::read(bytes) {

@@ -1,4 +1,4 @@
-//! One push or pull, asked of both implementations.
+//! One start, push or pull, asked of both implementations.
 
 use std::fmt::{self, Display, Formatter};
 
@@ -13,7 +13,8 @@ use crate::link::ring::{self, packet_length, past, Moved, Ring};
 /// Numbers in a whole answer: length, own index after the call.
 pub const ANSWER: usize = 2;
 
-/// What a push or a pull is asked with, but for the lent memory.
+/// What a call is asked with, but for the lent memory. A start has no own index
+/// before it: 0.
 #[derive(Clone, Copy)]
 pub struct Call {
     pub request: Request,
@@ -84,6 +85,7 @@ impl Display for Outcome {
 
 #[derive(Default)]
 pub struct Tallies {
+    pub start: Tally,
     pub push: Tally,
     pub pull: Tally,
 }
@@ -97,6 +99,30 @@ pub struct Calls<'a, 'g> {
 impl Calls<'_, '_> {
     /// Gives the second implementation's outcome; the proved one's must be the
     /// same.
+    pub fn start(&mut self, call: &Call, region: &mut Twin<u8>) -> Outcome {
+        let mut answer = Twin::new(&vec![PATTERN; call.answer_length]);
+        let [second_answer, proved_answer] = answer.lend();
+        let [second_region, proved_region] = region.lend();
+
+        let result = ring::start(&call.request, second_region);
+        let second = Outcome::second(call.own_index, result);
+        second.write(second_answer);
+        let proved = proved::start(&call.request, proved_region, proved_answer);
+
+        self.tallies.start.count(second.refusal);
+        self.compare(Made {
+            call,
+            action: Action::Start,
+            second,
+            proved,
+            answer,
+            region,
+            buffer: None,
+        });
+        second
+    }
+
+    /// Gives what `start` gives.
     pub fn push(&mut self, call: &Call, region: &mut Twin<u8>, content: &[u8]) -> Outcome {
         let mut answer = Twin::new(&vec![PATTERN; call.answer_length]);
         let [second_answer, proved_answer] = answer.lend();
@@ -126,7 +152,7 @@ impl Calls<'_, '_> {
         second
     }
 
-    /// Gives what `push` gives.
+    /// Gives what `start` gives.
     pub fn pull(&mut self, call: &Call, region: &mut Twin<u8>, buffer: &mut Twin<u8>) -> Outcome {
         let mut answer = Twin::new(&vec![PATTERN; call.answer_length]);
         let [second_answer, proved_answer] = answer.lend();
@@ -170,6 +196,7 @@ impl Calls<'_, '_> {
 
 /// A call and what it is given, in bytes.
 enum Action {
+    Start,
     Push(usize),
     Pull(usize),
 }
@@ -207,6 +234,7 @@ impl Display for Made<'_> {
             stated,
         } = self.call;
         match self.action {
+            Action::Start => write!(f, "start")?,
             Action::Push(length) => write!(f, "push of {length} bytes")?,
             Action::Pull(length) => write!(f, "pull into {length} bytes")?,
         }

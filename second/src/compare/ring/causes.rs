@@ -6,6 +6,7 @@ use std::ops::Range;
 
 use super::calls::{Call, Calls, Outcome};
 use super::inputs::{answer_length, buffer_length, multiple, Place};
+use super::start::START_LENGTH;
 use crate::compare::layout::inputs::{corner, LAST};
 use crate::compare::random::{Pool, Random};
 use crate::compare::twin::Twin;
@@ -16,9 +17,17 @@ use crate::link::ring::{past, Ring, LONGEST_CONTENT, UNIT};
 type Cause = fn(&mut Plan, &mut Random);
 
 /// Causes and their refusals, in the order of a call's checks.
-type Causes = [(u32, Cause); 8];
+type Causes = [(u32, Cause)];
 
-const PUSH_CAUSES: Causes = [
+const START_CAUSES: [(u32, Cause); 5] = [
+    (1, bad_alignment),
+    (2, bad_block_count),
+    (3, bad_bounds),
+    (4, too_small),
+    (6, wrong_length),
+];
+
+const PUSH_CAUSES: [(u32, Cause); 8] = [
     (1, bad_alignment),
     (2, bad_block_count),
     (3, bad_bounds),
@@ -29,7 +38,7 @@ const PUSH_CAUSES: Causes = [
     (10, full),
 ];
 
-const PULL_CAUSES: Causes = [
+const PULL_CAUSES: [(u32, Cause); 8] = [
     (1, bad_alignment),
     (2, bad_block_count),
     (3, bad_bounds),
@@ -43,8 +52,21 @@ const PULL_CAUSES: Causes = [
 /// Causes chosen out of a call's list: bit 0 is the first of them.
 pub type Choice = u32;
 
-/// None of the causes, and any others up to all.
+/// None of the causes of a push or a pull, and any others up to all.
 pub const CHOICES: Range<Choice> = 0..1 << PUSH_CAUSES.len();
+
+/// The same of a start.
+pub const START_CHOICES: Range<Choice> = 0..1 << START_CAUSES.len();
+
+/// A start with the chosen causes.
+pub fn start(calls: &mut Calls, random: &mut Random, pool: &Pool, place: Place, choice: Choice) {
+    // A start is handed no index, and is to be at 0.
+    let mut plan = Plan::new(place, 0, 0, 0);
+    plan.content_length = START_LENGTH;
+    let call = plan.spoil(&START_CAUSES, choice, random);
+    let mut region = plan.region(random, pool, |_| {});
+    calls.start(&call, &mut region);
+}
 
 /// A push with the chosen causes, on a ring of less than 65,536 data bytes.
 pub fn push(calls: &mut Calls, random: &mut Random, pool: &Pool, place: Place, choice: Choice) {
@@ -227,9 +249,13 @@ fn wrong_region(plan: &mut Plan, random: &mut Random) {
     if random.one_in(2) {
         plan.own_index = plan.place.bad_index(random);
     } else {
-        let length = plan.lent_length;
-        plan.lent_length = random.pick(&[0, 1, length - 1, length + 1, 2 * length]);
+        wrong_length(plan, random);
     }
+}
+
+fn wrong_length(plan: &mut Plan, random: &mut Random) {
+    let length = plan.lent_length;
+    plan.lent_length = random.pick(&[0, 1, length - 1, length + 1, 2 * length]);
 }
 
 fn too_long(plan: &mut Plan, random: &mut Random) {

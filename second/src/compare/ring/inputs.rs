@@ -110,6 +110,12 @@ impl Place {
         (self.request.end - self.request.begin) as usize
     }
 
+    /// Where the data ends and the blocks begin.
+    pub fn blocks_at(&self) -> usize {
+        let layout = lay_out(&self.request).expect("an accepted region");
+        (layout.blocks_begin - self.request.begin) as usize
+    }
+
     /// The ring in the bytes of the raw region.
     pub fn ring<'a>(&self, bytes: &'a mut [u8]) -> Ring<'a> {
         Ring::find(&self.request, bytes).expect("an accepted region, lent whole")

@@ -4,6 +4,7 @@ pub mod calls;
 mod causes;
 pub mod hostile;
 pub mod inputs;
+mod start;
 mod two_sides;
 
 use crate::compare::layout::inputs::Numbers;
@@ -16,12 +17,13 @@ use calls::{Calls, Tallies};
 use causes::CHOICES;
 use hostile::{hostile_partner, openings};
 use inputs::{buffer_length, content_length, Place, SMALL_REGION};
+use start::{bench_start, hostile_starts, start_causes, start_contents, Parts};
 use two_sides::TwoSides;
 
 /// A group with its own number of calls.
 type Fixed = fn(&mut Calls, &mut Random, &Pool);
 
-const FIXED: [(&str, Fixed); 7] = [
+const FIXED: [(&str, Fixed); 10] = [
     ("ring bench: data, address 2, block 5", bench_packet),
     (
         "ring bench: 64 data bytes take seven packets",
@@ -32,18 +34,25 @@ const FIXED: [(&str, Fixed); 7] = [
     ("ring: contents around 65,535 bytes", longest_contents),
     ("ring: push with every choice of causes", push_causes),
     ("ring: pull with every choice of causes", pull_causes),
+    ("ring bench: start", bench_starts),
+    ("ring: start with every choice of causes", start_causes),
+    (
+        "ring: contents asked whether they are a start",
+        start_contents,
+    ),
 ];
 
 /// A group that makes as many calls as it is told.
 type Mixture = fn(&mut Calls, &mut Random, &Pool, u64);
 
-const MIXTURES: [(&str, Mixture); 6] = [
+const MIXTURES: [(&str, Mixture); 7] = [
     ("order of packets, nearly full rings", full_traffic),
     ("two sides, small regions", small_traffic),
     ("two sides, regions of every length", large_traffic),
     ("hostile partner", hostile_partner),
     ("hostile caller, causes mixed", mixed_causes),
     ("hostile caller, openings of every kind", openings),
+    ("starts in regions with any bytes", hostile_starts),
 ];
 
 /// Content and packet of the bench: data, address 2, block 5.
@@ -72,53 +81,54 @@ pub fn run(settings: &Settings, report: &mut Report) {
         });
     }
     report.group("ring: every outcome occurred", |group| {
-        let Tallies { push, pull } = &tallies;
+        let Tallies { start, push, pull } = &tallies;
+        start.check(group, "start", &[0, 1, 2, 3, 4, 6]);
         push.check(group, "push", &[0, 1, 2, 3, 4, 6, 7, 10, 11]);
         pull.check(group, "pull", &[0, 1, 2, 3, 4, 6, 7, 8, 9]);
     });
 }
 
-/// The stated bytes at the stated places of three regions.
-fn bench_packet(calls: &mut Calls, random: &mut Random, pool: &Pool) {
-    let regions = [
-        // Begin, end, own blocks, other blocks, alignment, and where the read
-        // index, the write index and the data begin.
-        (0x2007_0000, 0x2007_004C, 1, 5, 4, [0, 4, 8]),
-        (0x2007_0000, 0x2007_0800, 16, 32, 32, [0, 32, 36]),
-        (0x2007_0010, 0x2007_07F0, 16, 32, 32, [16, 48, 52]),
-    ];
-    for (begin, end, local_blocks, remote_blocks, alignment, parts) in regions {
+/// Three regions, and where the read index, the write index and the data begin.
+fn bench_places() -> [(Place, Parts); 3] {
+    [
+        // Begin, end, own blocks, other blocks, alignment.
+        ([0x2007_0000, 0x2007_004C, 1, 5, 4], [0, 4, 8]),
+        ([0x2007_0000, 0x2007_0800, 16, 32, 32], [0, 32, 36]),
+        ([0x2007_0010, 0x2007_07F0, 16, 32, 32], [16, 48, 52]),
+    ]
+    .map(|(numbers, parts)| {
+        let [begin, end, local_blocks, remote_blocks, alignment] = numbers;
         let place = Place::new(Request {
             begin,
             end,
             local_blocks,
             remote_blocks,
             alignment,
-        })
-        .expect("an accepted region");
+        });
+        (place.expect("an accepted region"), parts)
+    })
+}
+
+/// The stated bytes at the stated places.
+fn bench_packet(calls: &mut Calls, random: &mut Random, pool: &Pool) {
+    for (place, [read_index, write_index, data]) in bench_places() {
         let mut sides = TwoSides::new(place, pool.slice(random, place.length()), 0);
         let mut expected = sides.region().to_vec();
-        let [read_index, write_index, data] = parts;
 
         sides.push(calls, &BENCH_CONTENT);
         expected[write_index..][..4].copy_from_slice(&[8, 0, 0, 0]);
         expected[data..][..8].copy_from_slice(&BENCH_PACKET);
-        check_region(calls, &sides, &expected);
+        sides.check_region(calls, &expected);
 
         sides.pull(calls, &[0xFF; 5]);
         expected[read_index..][..4].copy_from_slice(&[8, 0, 0, 0]);
-        check_region(calls, &sides, &expected);
+        sides.check_region(calls, &expected);
     }
 }
 
-fn check_region(calls: &mut Calls, sides: &TwoSides, expected: &[u8]) {
-    if sides.region() != expected {
-        calls.group.mismatch(|| {
-            format!(
-                "the bench packet\n  stated: {expected:02x?}\n  second: {:02x?}",
-                sides.region()
-            )
-        });
+fn bench_starts(calls: &mut Calls, random: &mut Random, pool: &Pool) {
+    for bench in bench_places() {
+        bench_start(calls, random, pool, bench);
     }
 }
 

@@ -41,6 +41,21 @@ impl TwoSides {
         self.region.second()
     }
 
+    /// Every byte must be as it is stated.
+    pub fn check_region(&self, calls: &mut Calls, stated: &[u8]) {
+        if self.region() != stated {
+            calls.group.mismatch(|| {
+                let second = self.region();
+                format!("the region\n  stated: {stated:02x?}\n  second: {second:02x?}")
+            });
+        }
+    }
+
+    /// The reader begins anew, as a partner does that opens its end.
+    pub fn reader_opens(&mut self) {
+        self.read_index = 0;
+    }
+
     /// Packets on the ring.
     pub fn packets(&self) -> usize {
         self.queue.len()
@@ -53,6 +68,14 @@ impl TwoSides {
             .iter()
             .map(|content| packet_length(content.len()));
         self.place.data_length - 1 - packets.sum::<usize>()
+    }
+
+    /// Empties the ring; from then on its reader has to stand at 0.
+    pub fn start(&mut self, calls: &mut Calls, content: &[u8]) {
+        self.queue = VecDeque::from([content.to_vec()]);
+        let stated = Outcome::accepted(content.len(), 0, self.place.data_length);
+        let call = self.call(0, stated);
+        self.write_index = calls.start(&call, &mut self.region).own_index;
     }
 
     pub fn push(&mut self, calls: &mut Calls, content: &[u8]) {

@@ -15,7 +15,7 @@ mod session;
 mod shrink;
 mod soak;
 
-pub use case::Opponent;
+pub use case::{Case, Opponent};
 pub use failure::in_script_main;
 pub use planted::run as run_faults;
 pub use soak::run as soak;
@@ -23,7 +23,6 @@ pub use soak::run as soak;
 use crate::compare::random::Random;
 use crate::compare::report::{Group, Report};
 use crate::compare::Settings;
-use case::Case;
 use newer::Newer;
 use outcomes::Outcomes;
 

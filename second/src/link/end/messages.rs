@@ -63,7 +63,7 @@ impl Open {
     }
 
     /// The place of a room, in a transmit region lent with that length.
-    pub fn room_place(&mut self, lent_length: usize, start: u32) -> Result<Range<usize>, Refusal> {
+    fn room_place(&mut self, lent_length: usize, start: u32) -> Result<Range<usize>, Refusal> {
         self.transmit.check_whole(lent_length)?;
         let run = self.outgoing.find(start, |state| match state {
             Outgoing::Reserved => true,
@@ -72,6 +72,12 @@ impl Open {
         })?;
         let end = self.transmit.block_offset(run.blocks().end);
         Ok(self.transmit.header(start).end..end)
+    }
+
+    /// Whether a region lent with that length would have the room.
+    pub fn room_question(&mut self, lent_length: u32, start: u32) -> Result<Answer, Refusal> {
+        self.room_place(lent_length as usize, start)?;
+        Ok(Answer::default())
     }
 
     pub fn send(
@@ -141,13 +147,19 @@ impl Open {
 
     /// K of the message that starts there, in a receive region lent with that
     /// length.
-    pub fn view_length(&self, lent_length: usize, start: u32) -> Result<u32, Refusal> {
+    fn view_length(&self, lent_length: usize, start: u32) -> Result<u32, Refusal> {
         self.receive.check_whole(lent_length)?;
         let mut lengths = self.incoming.iter().filter_map(|run| match run.state {
             Incoming::Data { k } if run.start == start => Some(k),
             _ => None,
         });
         lengths.next().ok_or(Refusal::NoMessage)
+    }
+
+    /// Whether a region lent with that length would have the view.
+    pub fn view_question(&self, lent_length: u32, start: u32) -> Result<Answer, Refusal> {
+        self.view_length(lent_length as usize, start)?;
+        Ok(Answer::default())
     }
 
     /// Forgets a received message.

@@ -16,7 +16,6 @@ pub use binding::{Endpoint, Name, LONGEST_NAME, MOST_ENDPOINTS};
 pub use control::{Control, ControlKind};
 pub use messages::{Incoming, Outgoing};
 pub use region::{number_at, Message, Region, HEADER};
-pub use rings::START_CONTENT;
 
 use crate::link::fault::{planted, unless, Fault};
 use crate::link::layout::Request;
@@ -102,6 +101,18 @@ impl End {
             outcome.answer.given = Given::Length(0);
         }
         outcome
+    }
+
+    /// A ring call, but for the planted fault.
+    pub fn pull_call(
+        &mut self,
+        call: impl FnOnce(&mut Open) -> Result<Answer, Refusal>,
+    ) -> Outcome {
+        if planted(Fault::PullGivesNothing) {
+            self.call(call)
+        } else {
+            self.ring_call(call)
+        }
     }
 
     fn answer(

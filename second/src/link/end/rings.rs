@@ -8,40 +8,37 @@ use super::Open;
 use crate::link::fault::{unless, Fault};
 use crate::link::layout::ring_header;
 use crate::link::refusal::Refusal;
-use crate::link::ring::{self, packet_length, Moved, Ring, UNIT};
-
-/// The first packet on every ring.
-pub const START_CONTENT: [u8; 13] = [
-    0x45, 0x6d, 0x31, 0x6c, 0x31, 0x4b, 0x30, 0x72, 0x6e, 0x33, 0x6c, 0x69, 0x34,
-];
+use crate::link::ring::{self, packet_length, Moved, UNIT};
 
 impl Open {
     /// Empties the transmit ring and pushes the start content on it.
     pub fn start(&mut self, transmit: &mut [u8]) -> Result<Answer, Refusal> {
-        self.transmit.check_whole(transmit.len())?;
-        let ring = Ring::find(&self.transmit.request, transmit)?;
-        *ring.read_index = [0; UNIT];
-        *ring.write_index = [0; UNIT];
-        self.write_index = unless(Fault::StartGoesOn, 0, self.write_index);
+        let region = &self.transmit;
+        let index = unless(Fault::StartGoesOn, 0, self.write_index);
+        let moved = ring::start_at(&region.request, index, transmit)?;
         self.read_index = unless(Fault::StartReadsAgain, self.read_index, 0);
-        let mut answer = self.push(transmit, &START_CONTENT)?;
         let read_index = self.transmit.read_index_place();
+        let mut answer = self.pushed(index, moved);
         answer.written.push(transmitted(read_index));
         Ok(answer)
     }
 
     pub fn push(&mut self, transmit: &mut [u8], content: &[u8]) -> Result<Answer, Refusal> {
-        let region = &self.transmit;
         let write = self.write_index;
-        let Moved { length, own_index } = ring::push(&region.request, write, transmit, content)?;
-        self.write_index = own_index;
+        let moved = ring::push(&self.transmit.request, write, transmit, content)?;
+        Ok(self.pushed(write, moved))
+    }
 
+    /// Goes on behind a packet that begins at an index.
+    fn pushed(&mut self, index: u32, moved: Moved) -> Answer {
+        let Moved { length, own_index } = moved;
+        self.write_index = own_index;
+        let region = &self.transmit;
+        let packet = region.data_places(index, packet_length(length as usize));
         let mut answer = Answer::giving(Given::Length(length));
-        let packet = region.data_places(write, packet_length(content.len()));
         answer.written.extend(packet.map(transmitted));
-        let write_index = region.write_index_place();
-        answer.written.push(transmitted(write_index));
-        Ok(answer)
+        answer.written.push(transmitted(region.write_index_place()));
+        answer
     }
 
     pub fn pull(&mut self, receive: &mut [u8], buffer: &mut [u8]) -> Result<Answer, Refusal> {

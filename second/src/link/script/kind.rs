@@ -1,7 +1,5 @@
 //! The kinds of a script's records, and the bodies that they have.
 
-use std::fmt::{self, Display, Formatter};
-
 use crate::link::fault::{planted, Fault};
 
 #[derive(Clone, Copy, PartialEq, Eq)]
@@ -80,16 +78,6 @@ impl BodyLength {
                 length == wanted || length > wanted && planted(Fault::LongBodyAccepted)
             }
             BodyLength::AtLeast(wanted) => length >= wanted,
-        }
-    }
-}
-
-impl Display for BodyLength {
-    fn fmt(&self, f: &mut Formatter) -> fmt::Result {
-        match self {
-            BodyLength::Any => write!(f, "any number are"),
-            BodyLength::Exactly(wanted) => write!(f, "{wanted} are"),
-            BodyLength::AtLeast(wanted) => write!(f, "{wanted} or more are"),
         }
     }
 }

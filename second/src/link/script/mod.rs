@@ -6,9 +6,9 @@ mod reading;
 mod record;
 mod row;
 
-pub use kind::Kind;
+pub use kind::{BodyLength, Kind};
 pub use play::{run, Memory, Player, Ran};
-pub use reading::{Records, Stop, OPENING_BYTES};
+pub use reading::{Stop, OPENING_BYTES, RECORD_HEADER};
 pub use record::Record;
 pub use row::{Row, ROW_BYTES, ROW_NAMES};
 

@@ -3,7 +3,7 @@
 use super::reading::Stop;
 use super::record::Record;
 use super::row::{Row, ROW_BYTES};
-use crate::link::end::{Answer, End, Open, Opening, Outcome, Slice};
+use crate::link::end::{Answer, End, Opening, Outcome, Slice};
 use crate::link::fault::{planted, Fault};
 
 /// The slices that a script works on.
@@ -72,23 +72,16 @@ impl Player {
             Record::Start => end.ring_call(|open| open.start(transmit)),
             Record::Pull { buffer_length } => {
                 let buffer = first(memory.buffer, buffer_length.into());
-                let pull = |open: &mut Open| open.pull(receive, buffer);
-                if planted(Fault::PullGivesNothing) {
-                    end.call(pull)
-                } else {
-                    end.ring_call(pull)
-                }
+                end.pull_call(|open| open.pull(receive, buffer))
             }
             Record::Room { start } => end.call(|open| open.room(transmit, start)),
             Record::View { start } => end.call(|open| open.view(receive, start)),
-            Record::RoomQuestion { start, length } => end.call(|open| {
-                open.room_place(length as usize, start)?;
-                Ok(Answer::default())
-            }),
-            Record::ViewQuestion { start, length } => end.call(|open| {
-                open.view_length(length as usize, start)?;
-                Ok(Answer::default())
-            }),
+            Record::RoomQuestion { start, length } => {
+                end.call(|open| open.room_question(length, start))
+            }
+            Record::ViewQuestion { start, length } => {
+                end.call(|open| open.view_question(length, start))
+            }
             Record::Write {
                 slice,
                 offset,

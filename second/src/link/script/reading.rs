@@ -1,10 +1,7 @@
 //! Reads a script: its opening, its records, and where it stops.
 
-use std::fmt::{self, Display, Formatter};
-
 use super::kind::{BodyLength, Kind};
 use super::record::Record;
-use super::row::ROW_BYTES;
 use crate::link::end::{Opening, Slice};
 use crate::link::fault::{unless, Fault};
 
@@ -12,7 +9,7 @@ use crate::link::fault::{unless, Fault};
 pub const OPENING_BYTES: usize = 22;
 
 /// Bytes of a record before its body: the kind, then the body's length.
-const RECORD_HEADER: usize = 3;
+pub const RECORD_HEADER: usize = 3;
 
 /// Why a run stops before its script ends.
 #[derive(Clone, Copy)]
@@ -39,38 +36,6 @@ pub enum Stop {
     Output {
         left: usize,
     },
-}
-
-impl Display for Stop {
-    fn fmt(&self, f: &mut Formatter) -> fmt::Result {
-        match self {
-            Stop::Opening { left } => {
-                write!(
-                    f,
-                    "an opening of {OPENING_BYTES} bytes where {left} are left"
-                )
-            }
-            Stop::RecordHeader { left } => {
-                write!(
-                    f,
-                    "a record header of {RECORD_HEADER} bytes where {left} are left"
-                )
-            }
-            Stop::Record { length, left } => {
-                write!(f, "a record of {length} bytes where {left} are left")
-            }
-            Stop::UnknownKind(kind) => write!(f, "unknown kind {kind}"),
-            Stop::Body { length, wanted } => {
-                write!(f, "body of {length} bytes where {wanted} wanted")
-            }
-            Stop::Output { left } => {
-                write!(
-                    f,
-                    "the output is full: a row of {ROW_BYTES} bytes where {left} are left"
-                )
-            }
-        }
-    }
 }
 
 impl Opening {

@@ -1,7 +1,8 @@
 //! Control messages on their way: pushed, pulled, and handed over to the end.
 
 use super::{Pair, BUFFER};
-use crate::link::end::{Given, Outcome, START_CONTENT};
+use crate::link::end::{Given, Outcome};
+use crate::link::ring::is_start;
 use crate::link::script::Record;
 
 pub fn pull(pair: &mut Pair, side: usize) -> bool {
@@ -24,7 +25,7 @@ pub fn pull(pair: &mut Pair, side: usize) -> bool {
         caller.pulled.push(content);
     } else {
         caller.bonded = true;
-        if content != START_CONTENT {
+        if !is_start(&content) {
             pair.complain(format!("the first content is {content:02x?}"));
         }
     }
