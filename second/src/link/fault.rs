@@ -104,13 +104,13 @@ faults! {
     PullGivesNothing,
 
     // Control messages.
-    /// 12: a control message of two bytes is taken
+    /// 12: a control message of two bytes is accepted
     TwoBytesAccepted,
     /// 12: a control message of more than three bytes is refused
     LongControlRefused,
     /// 13: only two bits of the kind are looked at
     KindOfTwoBits,
-    /// 14: address 0xFE is taken
+    /// 14: address 0xFE is accepted
     AddressFeAccepted,
     /// 15: a waiting endpoint counts as bound
     WaitingIsBound,
@@ -142,9 +142,9 @@ faults! {
     LongNameAccepted,
     /// 20: a name with a zero in it is registered
     ZeroInNameAccepted,
-    /// 20: an arriving name without a zero is taken
+    /// 20: an arriving name without a zero is accepted
     UnendedNameAccepted,
-    /// 20: an arriving name of no bytes is taken
+    /// 20: an arriving name of no bytes is accepted
     EmptyNameAccepted,
     /// 20: bytes behind an arriving name are refused
     BytesBehindNameRefused,
@@ -206,9 +206,9 @@ faults! {
     DoneGivesDelivery,
 
     // Scripts.
-    /// A body longer than its kind has is taken
+    /// A body longer than its kind has is accepted
     LongBodyAccepted,
-    /// A record cut in its body is taken
+    /// A record cut in its body is accepted
     CutRecordAccepted,
     /// A write that runs past its slice writes nothing
     WriteAllOrNothing,

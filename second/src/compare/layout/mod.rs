@@ -14,7 +14,7 @@ use crate::link::layout::{lay_out, ring_minimum, round_up, Request, ALIGNMENTS, 
 use crate::link::refusal::outcome_name;
 use inputs::{FAMILIES, MIXTURES};
 
-/// Values of a layout: aligned begin, ring data length, blocks begin, block
+/// Values of a layout: aligned begin, data length, blocks begin, block
 /// size, aligned end.
 const VALUES: usize = 5;
 
@@ -100,8 +100,8 @@ impl Display for Outcome {
         let [begin, data_length, blocks_begin, block_size, end] = self.values;
         write!(
             f,
-            "{}, begin {begin:#x}, ring data {data_length}, \
-             blocks begin {blocks_begin:#x}, block {block_size}, end {end:#x}",
+            "{}, begin {begin:#x}, data length {data_length}, \
+             blocks begin {blocks_begin:#x}, block size {block_size}, end {end:#x}",
             outcome_name(self.refusal)
         )
     }
@@ -166,7 +166,7 @@ impl Display for Stated {
                 block_size,
                 blocks_begin,
             } => {
-                write!(f, "accepted, block {block_size}")?;
+                write!(f, "accepted, block size {block_size}")?;
                 match blocks_begin {
                     Some(begin) => write!(f, ", blocks begin {begin:#x}"),
                     None => Ok(()),

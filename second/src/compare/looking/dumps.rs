@@ -7,7 +7,7 @@ use crate::compare::report::Group;
 use crate::compare::ring::inputs::Place;
 use crate::compare::tally::Tally;
 use crate::compare::Settings;
-use crate::link::end::{Answer, ControlKind, End, Endpoint, Name, Opening, Outcome};
+use crate::link::end::{Answer, End, Endpoint, Name, Opening, Outcome, DATA};
 use crate::link::layout::Request;
 use crate::link::ring;
 use crate::look::region::{show, Dump};
@@ -186,7 +186,7 @@ fn compare_pulls(group: &mut Group, tally: &mut Tally, opening: &Opening, dump: 
 fn arrive(opening: &Opening, bytes: &[u8], content: &[u8], address: Option<u8>) -> u32 {
     let (mut end, _) = End::open(opening);
     let Outcome { number, .. } = end.call(|open| {
-        if content.first() == Some(&(ControlKind::Data as u8)) {
+        if content.first() == Some(&DATA) {
             open.endpoints.push(Endpoint {
                 name: Name::arriving(b"x\0", 2)?,
                 address,

@@ -6,7 +6,9 @@ use std::ops::Range;
 use super::case::Case;
 use super::session::Session;
 use crate::compare::random::Random;
-use crate::link::end::{Open, Outcome, Region, Slice, HEADER, LONGEST_NAME};
+use crate::link::end::{
+    Open, Outcome, Region, Slice, BOUND, DATA, HEADER, LONGEST_NAME, RELEASE_BOUND,
+};
 use crate::link::ring::past;
 use crate::link::script::{Record, Row};
 
@@ -98,7 +100,7 @@ impl Change<'_> {
             self.change_unused(&used);
         }
         match record {
-            Record::Arrival(control @ [0..=3, _, _, ..]) => {
+            Record::Arrival(control @ [DATA..=RELEASE_BOUND, _, _, ..]) => {
                 let grown = self.grow(control);
                 let more = self.random_bytes(5);
                 let longer = [control, &more].concat();
@@ -170,7 +172,7 @@ impl Change<'_> {
     /// Puts bytes after a binding message that fits and is zero-ended, inside
     /// the blocks that it has. Gives the place of the header to be restored.
     fn grow(&mut self, control: &[u8]) -> Option<Range<usize>> {
-        let &[2, _, block, ..] = control else {
+        let &[BOUND, _, block, ..] = control else {
             return None;
         };
         let region = &self.base.state()?.receive;
@@ -180,11 +182,11 @@ impl Change<'_> {
             return None;
         }
         let k = region.read_k(receive, start);
-        let blocks = u32::try_from(region.count_for(k)).ok()?;
-        if blocks > region.block_count() - start || !name_bytes(region, receive, start, k).1 {
+        let count = u32::try_from(region.count_for(k)).ok()?;
+        if count > region.block_count() - start || !name_bytes(region, receive, start, k).1 {
             return None;
         }
-        let most = region.bytes_of(blocks) as u32 - HEADER as u32;
+        let most = region.bytes_of(count) as u32 - HEADER as u32;
         let grown = self.random.between(k.into(), most.into()) as u32;
         let header = region.header(start);
         let behind = region.content(start, k as usize).end;
@@ -227,9 +229,9 @@ fn read_bytes(
             }
             read
         }
-        (Record::Arrival([0, _, block, ..]), 0 | 17 | 18)
-        | (Record::Arrival([2, _, block, ..]), 17 | 18) => vec![region.header((*block).into())],
-        (Record::Arrival([2, _, block, ..]), 0 | 20 | 21 | 22) => {
+        (Record::Arrival([DATA, _, block, ..]), 0 | 17 | 18)
+        | (Record::Arrival([BOUND, _, block, ..]), 17 | 18) => vec![region.header((*block).into())],
+        (Record::Arrival([BOUND, _, block, ..]), 0 | 20 | 21 | 22) => {
             let start = u32::from(*block);
             let k = region.read_k(&base.receive, start);
             vec![

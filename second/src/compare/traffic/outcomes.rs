@@ -4,7 +4,7 @@ use std::collections::BTreeMap;
 
 use crate::compare::report::Group;
 use crate::compare::tally::Tally;
-use crate::link::end::given_name;
+use crate::link::end::{given_name, ControlKind};
 use crate::link::refusal::outcome_name;
 use crate::link::script::{Record, Row};
 
@@ -19,8 +19,8 @@ const LENGTH: With = (1, None);
 const RUN: With = (2, None);
 const DELIVERY: With = (4, None);
 
-const fn control(kind: u32) -> With {
-    (CONTROL_BYTES, Some(kind))
+const fn control(kind: ControlKind) -> With {
+    (CONTROL_BYTES, Some(kind as u32))
 }
 
 /// The calls of a script, arrivals by their kind, with all that each can give
@@ -35,7 +35,7 @@ const OUTCOMES: [(&str, With, &[u32]); 26] = [
     ("arrival, data", NOTHING, &[6, 12, 14, 15, 16, 17, 18]),
     ("arrival, release data", NOTHING, &[0, 6, 12, 16, 25]),
     // It binds at once, or is stored.
-    ("arrival, bound", control(3), &[0]),
+    ("arrival, bound", control(ControlKind::ReleaseBound), &[0]),
     (
         "arrival, bound",
         NOTHING,
@@ -43,15 +43,15 @@ const OUTCOMES: [(&str, With, &[u32]); 26] = [
     ),
     ("arrival, release bound", NOTHING, &[0, 6, 12, 14, 16, 25]),
     // Of an initiator; of a follower that finds its binding, or waits.
-    ("register", control(2), &[0]),
-    ("register", control(3), &[0]),
+    ("register", control(ControlKind::Bound), &[0]),
+    ("register", control(ControlKind::ReleaseBound), &[0]),
     ("register", NOTHING, &[0, 6, 20, 21, 22, 23, 24]),
     ("reserve", RUN, &[0]),
     ("reserve", NOTHING, &[6, 23, 24]),
-    ("send", control(0), &[0]),
+    ("send", control(ControlKind::Data), &[0]),
     ("send", NOTHING, &[6, 15, 23, 25]),
     ("drop", NOTHING, &[0, 6, 25]),
-    ("done", control(1), &[0]),
+    ("done", control(ControlKind::ReleaseData), &[0]),
     ("done", NOTHING, &[6, 25]),
     ("push", LENGTH, &[0, 6, 7, 10]),
     ("start", LENGTH, &[0, 6]),
@@ -66,11 +66,13 @@ const OUTCOMES: [(&str, With, &[u32]); 26] = [
 fn call_of(record: &Record) -> Option<&'static str> {
     Some(match record {
         Record::Arrival([]) => "arrival, empty",
-        Record::Arrival([0, ..]) => "arrival, data",
-        Record::Arrival([1, ..]) => "arrival, release data",
-        Record::Arrival([2, ..]) => "arrival, bound",
-        Record::Arrival([3, ..]) => "arrival, release bound",
-        Record::Arrival(_) => "arrival, unknown kind",
+        Record::Arrival([first, ..]) => match ControlKind::of(*first) {
+            Some(ControlKind::Data) => "arrival, data",
+            Some(ControlKind::ReleaseData) => "arrival, release data",
+            Some(ControlKind::Bound) => "arrival, bound",
+            Some(ControlKind::ReleaseBound) => "arrival, release bound",
+            None => "arrival, unknown kind",
+        },
         Record::Register(_) => "register",
         Record::Reserve { .. } => "reserve",
         Record::Send { .. } => "send",

@@ -17,6 +17,11 @@ pub enum ControlKind {
     ReleaseBound = 3,
 }
 
+/// The first bytes of control messages, for patterns.
+pub const DATA: u8 = ControlKind::Data as u8;
+pub const BOUND: u8 = ControlKind::Bound as u8;
+pub const RELEASE_BOUND: u8 = ControlKind::ReleaseBound as u8;
+
 impl ControlKind {
     pub const ALL: [ControlKind; 4] = [
         ControlKind::Data,

@@ -13,7 +13,7 @@ mod runs;
 
 pub use answer::{given_name, Answer, Given, Outcome, Slice};
 pub use binding::{Endpoint, Name, LONGEST_NAME, MOST_ENDPOINTS};
-pub use control::{Control, ControlKind};
+pub use control::{Control, ControlKind, BOUND, CONTROL, DATA, RELEASE_BOUND};
 pub use messages::{Incoming, Outgoing};
 pub use region::{number_at, Message, Region, HEADER};
 

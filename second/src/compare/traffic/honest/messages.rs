@@ -1,7 +1,7 @@
 //! Endpoints and their messages: registered, sent, seen, and given back.
 
 use super::{names, Message, Pair, Side};
-use crate::link::end::{Given, Slice, MOST_ENDPOINTS};
+use crate::link::end::{Given, Slice, MOST_ENDPOINTS, RELEASE_BOUND};
 use crate::link::script::Record;
 
 pub fn register(pair: &mut Pair, side: usize) -> bool {
@@ -19,7 +19,7 @@ pub fn register(pair: &mut Pair, side: usize) -> bool {
     }
     let caller = &mut pair.sides[side];
     caller.registered += 1;
-    if let Given::Control([3, address, _]) = outcome.answer.given {
+    if let Given::Control([RELEASE_BOUND, address, _]) = outcome.answer.given {
         caller.bound.push(address);
     }
     pair.answered(side, &outcome);

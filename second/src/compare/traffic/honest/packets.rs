@@ -1,7 +1,7 @@
 //! Control messages on their way: pushed, pulled, and handed over to the end.
 
 use super::{Pair, BUFFER};
-use crate::link::end::{Given, Outcome};
+use crate::link::end::{Control, ControlKind, Given, Outcome, CONTROL};
 use crate::link::ring::is_start;
 use crate::link::script::Record;
 
@@ -52,11 +52,13 @@ pub fn arrival(pair: &mut Pair, side: usize) -> bool {
 
 /// False if the message is early.
 fn hand_over(pair: &mut Pair, side: usize, content: &[u8]) -> bool {
-    let &[kind, address, block] = content else {
+    let (Ok(control), CONTROL) = (Control::read(content), content.len()) else {
         pair.complain(format!("{content:02x?} was pulled"));
         return true;
     };
-    let early = kind == 0 && !pair.sides[side].bound.contains(&address);
+    let address = control.address;
+    let bound = pair.sides[side].bound.contains(&address);
+    let early = control.kind == ControlKind::Data && !bound;
     let refusals: &[u32] = if early { &[15] } else { &[] };
     let outcome = pair.call(side, Record::Arrival(content), refusals);
     if early && outcome.number == 15 {
@@ -64,33 +66,33 @@ fn hand_over(pair: &mut Pair, side: usize, content: &[u8]) -> bool {
     }
     if early && outcome.number == 0 {
         pair.complain(format!(
-            "data for {address:#x} was taken before it was bound"
+            "data for {address:#x} was accepted before it was bound"
         ));
     }
-    arrived(pair, side, [kind, address, block], &outcome);
+    arrived(pair, side, control, &outcome);
     true
 }
 
-fn arrived(pair: &mut Pair, side: usize, [kind, address, block]: [u8; 3], outcome: &Outcome) {
-    let start = u32::from(block);
+fn arrived(pair: &mut Pair, side: usize, control: Control, outcome: &Outcome) {
+    let start = control.start();
     let caller = &mut pair.sides[side];
-    match kind {
-        0 => {
+    match control.kind {
+        ControlKind::Data => {
             caller.held.push(start);
             check_arrived(pair, side, outcome);
         }
-        1 => {
+        ControlKind::ReleaseData => {
             if caller.sent.remove(&start).is_none() {
                 pair.complain(format!("a release of {start}, where nothing was sent"));
             }
         }
-        2 => {
+        ControlKind::Bound => {
             if matches!(outcome.answer.given, Given::Control(_)) {
-                caller.bound.push(address);
+                caller.bound.push(control.address);
             }
             pair.answered(side, outcome);
         }
-        _ => caller.bound.push(address),
+        ControlKind::ReleaseBound => caller.bound.push(control.address),
     }
 }
 

@@ -9,17 +9,17 @@ impl Lone<'_> {
         self.random.one_in(self.odd)
     }
 
-    /// Blocks to transmit or to receive in; of a closed end any number.
-    pub fn blocks(&self, region: fn(&Open) -> &Region) -> u32 {
+    /// Blocks to transmit or to receive in, all of them; of a closed end any number.
+    pub fn block_count(&self, region: fn(&Open) -> &Region) -> u32 {
         self.session
             .state()
             .map_or(4, |open| region(open).block_count())
     }
 
     /// A start for a call on a message, one of the wanted if there are any.
-    pub fn start_of(&mut self, wanted: &[u32], blocks: u32) -> u32 {
+    pub fn start_of(&mut self, wanted: &[u32], block_count: u32) -> u32 {
         let usual = if wanted.is_empty() || self.random.one_in(6) {
-            self.random.below(u64::from(blocks)) as u32
+            self.random.below(u64::from(block_count)) as u32
         } else {
             self.random.pick(wanted)
         };
@@ -30,7 +30,7 @@ impl Lone<'_> {
             0 => usual + 1,
             1 => usual + 256,
             2 => usual | 1 << self.random.between(8, 31),
-            3 => blocks,
+            3 => block_count,
             4 => 256,
             5 => u32::MAX,
             6 => self.random.any(),
@@ -39,15 +39,15 @@ impl Lone<'_> {
     }
 
     /// The block number of a control message.
-    pub fn block(&mut self, wanted: &[u32], blocks: u32) -> u8 {
+    pub fn block(&mut self, wanted: &[u32], block_count: u32) -> u8 {
         if self.random.one_in(12) {
-            let near = i64::from(blocks) + self.random.between(-1, 1);
+            let near = i64::from(block_count) + self.random.between(-1, 1);
             return near.clamp(0, 255) as u8;
         }
         if self.random.one_in(24) {
             return self.random.any() as u8;
         }
-        self.start_of(wanted, blocks) as u8
+        self.start_of(wanted, block_count) as u8
     }
 
     /// An address, often that of an endpoint.
@@ -74,16 +74,16 @@ impl Lone<'_> {
     }
 
     /// K of a message for which there are so many blocks.
-    pub fn size(&mut self, region: fn(&Open) -> &Region, blocks: u32) -> u32 {
+    pub fn size(&mut self, region: fn(&Open) -> &Region, count: u32) -> u32 {
         let Some(open) = self.session.state() else {
             return self.random.any();
         };
         let block_size = i64::from(region(open).layout.block_size);
-        let all = block_size * i64::from(blocks);
+        let all = block_size * i64::from(count);
         let size = match self.random.below(16) {
             0..=5 => self.random.between(0, 2 * block_size),
             6..=9 => {
-                let near = block_size * self.random.between(1, i64::from(blocks.max(1)));
+                let near = block_size * self.random.between(1, i64::from(count.max(1)));
                 near - 4 + self.random.between(-1, 1)
             }
             10 | 11 => all - 4 + self.random.between(-2, 4),

@@ -46,14 +46,14 @@ pub fn any_name(lone: &mut Lone) {
 }
 
 pub fn reserve(lone: &mut Lone) {
-    let blocks = lone.blocks(transmit);
-    let k = lone.size(transmit, blocks);
+    let block_count = lone.block_count(transmit);
+    let k = lone.size(transmit, block_count);
     lone.session.play(Record::Reserve { k });
 }
 
 pub fn send(lone: &mut Lone) {
     let reserved = outgoing(&lone.session, |state| matches!(state, Outgoing::Reserved));
-    let start = lone.start_of(&reserved, lone.blocks(transmit));
+    let start = lone.start_of(&reserved, lone.block_count(transmit));
     let address = lone.address();
     let count = lone.session.state().and_then(|open| {
         let mut runs = open.outgoing.iter();
@@ -65,19 +65,19 @@ pub fn send(lone: &mut Lone) {
 
 pub fn drop_reservation(lone: &mut Lone) {
     let wanted = outgoing(&lone.session, |_| true);
-    let start = lone.start_of(&wanted, lone.blocks(transmit));
+    let start = lone.start_of(&wanted, lone.block_count(transmit));
     lone.session.play(Record::Drop { start });
 }
 
 pub fn done(lone: &mut Lone) {
     let wanted = incoming(&lone.session);
-    let start = lone.start_of(&wanted, lone.blocks(receive));
+    let start = lone.start_of(&wanted, lone.block_count(receive));
     lone.session.play(Record::Done { start });
 }
 
 pub fn room(lone: &mut Lone) {
     let wanted = outgoing(&lone.session, |_| true);
-    let start = lone.start_of(&wanted, lone.blocks(transmit));
+    let start = lone.start_of(&wanted, lone.block_count(transmit));
     let place = lone.session.play(Record::Room { start }).answer.place;
     if !place.is_empty() && lone.random.one_in(2) {
         let bytes = [lone.random.any() as u8; 3];
@@ -90,21 +90,21 @@ pub fn room(lone: &mut Lone) {
 
 pub fn view(lone: &mut Lone) {
     let wanted = incoming(&lone.session);
-    let start = lone.start_of(&wanted, lone.blocks(receive));
+    let start = lone.start_of(&wanted, lone.block_count(receive));
     lone.session.play(Record::View { start });
 }
 
 pub fn question(lone: &mut Lone) {
     let opening = lone.session.opening();
     let of_room = lone.random.one_in(2);
-    let (wanted, blocks, region) = if of_room {
+    let (wanted, block_count, region) = if of_room {
         let wanted = outgoing(&lone.session, |_| true);
-        (wanted, lone.blocks(transmit), opening.transmit())
+        (wanted, lone.block_count(transmit), opening.transmit())
     } else {
         let wanted = incoming(&lone.session);
-        (wanted, lone.blocks(receive), opening.receive())
+        (wanted, lone.block_count(receive), opening.receive())
     };
-    let start = lone.start_of(&wanted, blocks);
+    let start = lone.start_of(&wanted, block_count);
     let whole = region.end.wrapping_sub(region.begin);
     let length = if lone.is_odd() {
         odd_length(lone, whole)

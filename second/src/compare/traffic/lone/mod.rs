@@ -9,7 +9,7 @@ use super::case::Case;
 use super::session::Session;
 use super::{names, openings};
 use crate::compare::random::Random;
-use crate::link::end::{Given, Opening, Slice, HEADER};
+use crate::link::end::{Given, Opening, Slice, BOUND, HEADER, RELEASE_BOUND};
 use crate::link::script::Record;
 
 /// The most bytes that the receive region is filled with at first.
@@ -144,7 +144,9 @@ impl Lone<'_> {
                 continue;
             }
             match outcome.answer.given {
-                Given::Control([2, address, start]) => self.arrival(&[3, address, start]),
+                Given::Control([BOUND, address, start]) => {
+                    self.arrival(&[RELEASE_BOUND, address, start]);
+                }
                 _ => self.binding(0, number as u8, &name),
             }
         }

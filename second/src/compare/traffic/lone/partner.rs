@@ -5,7 +5,7 @@ use super::arguments::{incoming, outgoing, receive, transmit};
 use super::{calls, names, Lone};
 use crate::compare::ring::hostile::{hostile_index, hostile_length};
 use crate::compare::ring::inputs::Place;
-use crate::link::end::{Outgoing, Slice};
+use crate::link::end::{ControlKind, Outgoing, Slice, BOUND};
 use crate::link::ring::{packet, past};
 use crate::link::script::Record;
 
@@ -14,7 +14,7 @@ impl Lone<'_> {
     pub fn binding(&mut self, block: u8, address: u8, name: &[u8]) {
         let content = [name, &[0]].concat();
         self.message(block, content.len() as u32, &content);
-        self.arrival(&[2, address, block]);
+        self.arrival(&[BOUND, address, block]);
     }
 
     /// Puts header and content where the partner would.
@@ -32,8 +32,8 @@ impl Lone<'_> {
     }
 
     /// A control message of known kind; further bytes do not count.
-    fn control(&mut self, kind: u8, address: u8, block: u8) {
-        let mut control = vec![kind, address, block];
+    fn control(&mut self, kind: ControlKind, address: u8, block: u8) {
+        let mut control = vec![kind as u8, address, block];
         if self.random.one_in(4) {
             let more = self.random.between(1, 6) as usize;
             control.extend(self.random.bytes(more));
@@ -108,20 +108,20 @@ fn put_packet(lone: &mut Lone, packet: &[u8], write: u32) {
 }
 
 pub fn data(lone: &mut Lone) {
-    let blocks = lone.blocks(receive);
+    let block_count = lone.block_count(receive);
     let address = lone.address() as u8;
     // From block 0 on a message can take all of them.
     let block = if lone.random.one_in(6) {
         0
     } else {
-        lone.block(&[], blocks)
+        lone.block(&[], block_count)
     };
     if !lone.random.one_in(6) {
-        let behind = blocks.saturating_sub(block.into());
+        let behind = block_count.saturating_sub(block.into());
         let k = lone.size(receive, behind);
         lone.message(block, k, &[]);
     }
-    lone.control(0, address, block);
+    lone.control(ControlKind::Data, address, block);
 }
 
 pub fn release_data(lone: &mut Lone) {
@@ -130,17 +130,17 @@ pub fn release_data(lone: &mut Lone) {
     } else {
         outgoing(&lone.session, |state| matches!(state, Outgoing::Data))
     };
-    let mut block = lone.block(&sent, lone.blocks(transmit));
+    let mut block = lone.block(&sent, lone.block_count(transmit));
     // The middle of a run is not where it starts.
     if lone.random.one_in(6) {
         block = block.saturating_add(1);
     }
     let unused = lone.random.any() as u8;
-    lone.control(1, unused, block);
+    lone.control(ControlKind::ReleaseData, unused, block);
 }
 
 pub fn bound(lone: &mut Lone) {
-    let blocks = lone.blocks(receive);
+    let block_count = lone.block_count(receive);
     let address = if lone.random.one_in(4) {
         lone.address() as u8
     } else {
@@ -155,15 +155,15 @@ pub fn bound(lone: &mut Lone) {
     let block = if lone.random.one_in(2) {
         lone.free_block(content.len())
     } else {
-        lone.block(&[], blocks)
+        lone.block(&[], block_count)
     };
     let k = match lone.random.below(12) {
-        0 => lone.size(receive, blocks.saturating_sub(block.into())),
+        0 => lone.size(receive, block_count.saturating_sub(block.into())),
         1 => content.len().saturating_sub(1 + more) as u32,
         _ => content.len() as u32,
     };
     lone.message(block, k, &content);
-    lone.control(2, address, block);
+    lone.control(ControlKind::Bound, address, block);
 }
 
 /// A name to be bound, now and then one that an endpoint waits with.
@@ -194,12 +194,12 @@ pub fn release_bound(lone: &mut Lone) {
         .collect();
     if sent.is_empty() || lone.random.one_in(3) {
         let wanted = outgoing(&lone.session, |_| true);
-        let block = lone.block(&wanted, lone.blocks(transmit));
+        let block = lone.block(&wanted, lone.block_count(transmit));
         let address = lone.address() as u8;
-        lone.control(3, address, block);
+        lone.control(ControlKind::ReleaseBound, address, block);
     } else {
         let (start, address) = lone.random.pick(&sent);
-        lone.control(3, address, start as u8);
+        lone.control(ControlKind::ReleaseBound, address, start as u8);
     }
 }
 
@@ -224,8 +224,8 @@ pub fn change_receive_header(lone: &mut Lone) {
         return;
     }
     let start = lone.random.pick(&starts);
-    let blocks = lone.blocks(receive);
-    let k = lone.size(receive, blocks);
+    let block_count = lone.block_count(receive);
+    let k = lone.size(receive, block_count);
     lone.message(start as u8, k, &[]);
     if lone.random.one_in(2) {
         lone.session.play(Record::View { start });
