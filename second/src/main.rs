@@ -128,8 +128,9 @@ fn region(file: &str, bounds: Bounds) -> bool {
         return false;
     };
     let request = bounds.request(bytes.len());
-    print(&look::region::show(&request, &bytes));
-    look::region::Dump::read(&request, &bytes).is_ok()
+    let shown = look::region::show(&request, &bytes);
+    print(shown.as_ref().unwrap_or_else(|refused| refused));
+    shown.is_ok()
 }
 
 /// What a file has in it; if it cannot be read, that is said.

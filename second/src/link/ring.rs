@@ -161,13 +161,13 @@ impl<'a> Ring<'a> {
     /// The ring in a raw region that is lent whole.
     pub fn find(request: &Request, region: &'a mut [u8]) -> Result<Self, Refusal> {
         let layout = lay_out(request)?;
-        let raw_length = request.end - request.begin;
-        if region.len() != raw_length as usize {
+        let length = request.end - request.begin;
+        if region.len() != length as usize {
             return Err(Refusal::WrongRegion);
         }
-        let begin = layout.begin - request.begin;
-        let end = layout.blocks_begin - request.begin;
-        let ring = &mut region[begin as usize..end as usize];
+        let ring_at = (layout.begin - request.begin) as usize;
+        let blocks_at = (layout.blocks_begin - request.begin) as usize;
+        let ring = &mut region[ring_at..blocks_at];
 
         let (before_write_index, rest) = ring.split_at_mut(request.alignment as usize);
         let (read_index, _) = before_write_index

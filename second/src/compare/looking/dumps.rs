@@ -50,7 +50,7 @@ pub fn as_answered(group: &mut Group, settings: &Settings) {
             if said != answered {
                 group.mismatch(|| {
                     let content = &packet.content;
-                    let text = show(&request, &bytes);
+                    let text = show(&request, &bytes).unwrap_or_else(|refused| refused);
                     format!("{content:02x?}: said is {said}, answered {answered}\n{text}")
                 });
             }
@@ -221,7 +221,7 @@ pub fn any_bytes(group: &mut Group, settings: &Settings) {
 }
 
 fn check_bounds(group: &mut Group, request: &Request, bytes: &[u8]) {
-    let text = show(request, bytes);
+    let text = show(request, bytes).unwrap_or_else(|refused| refused);
     group.input();
     let columns = text.lines().map(|line| line.chars().count()).max();
     let lines = text.lines().count();

@@ -84,7 +84,7 @@ impl Writer {
     }
 
     fn says(&self, group: &mut Group, what: &str, lines: &[&str]) {
-        let text = show(&OPENING.transmit(), &self.region);
+        let text = show(&OPENING.transmit(), &self.region).expect("an accepted region");
         says(group, what, &text, lines);
         if text.lines().count() > SCREEN {
             group.mismatch(|| format!("{what}: more than {SCREEN} lines\n{text}"));
@@ -112,7 +112,8 @@ fn untouched(group: &mut Group) {
             "0x20070024 data, 476 bytes",
             "0x20070200 blocks, 16 of 96 bytes",
             "0x20070800 end",
-            "What an end keeps privately is not in a dump; 15, 18, 19, 21, 22 and 25 depend on it.",
+            "What an end keeps privately (own indexes, messages, endpoints) is not in a dump; \
+             15, 18, 19, 21, 22 and 25 depend on it.",
             "ring empty: a pull is refused with 8: the ring is empty; contents of up to 468 bytes fit",
             "[................]",
             "0-15 all zero",
@@ -147,7 +148,8 @@ fn messages(group: &mut Group) {
         "bindings and data",
         &[
             "ring 60 bytes unread: 6 packets; contents of up to 408 bytes fit",
-            "[R=====W.........................................] R read, W write, X both; a cell is 10 bytes",
+            "[R=====W.........................................] \
+             R read, W write, X both, = unread; a cell is 10 bytes",
             "at 0 13 bytes 45 6d 31 6c .. start packet",
             "at 20 3 bytes 02 00 00 bound, address 0, block 0: \"example\" K 8",
             "at 36 3 bytes 00 01 02 data, address 1, block 2: K 200",
@@ -176,21 +178,26 @@ fn messages(group: &mut Group) {
 
 fn indexes(group: &mut Group) {
     let rule = "(it has to be below 476 and a multiple of 4)";
-    for (at, index, said) in [
-        (READ_INDEX, 476, "read index 476: a push is"),
-        (READ_INDEX, 6, "read index 6: a push is"),
-        (WRITE_INDEX, 21, "write index 21: a pull is"),
-        (WRITE_INDEX, u32::MAX, "write index 4294967295: a pull is"),
+    let next = "from the read index on: 00 0d 00 00 45 6d 31 6c 31 4b 30 72 6e 33 6c 69 34 \
+                00 00 00 00 00 00 00";
+    for (at, index, shown, said) in [
+        (READ_INDEX, 476, None, "read index 476: a push is"),
+        (READ_INDEX, 6, None, "read index 6: a push is"),
+        (WRITE_INDEX, 21, Some(next), "write index 21: a pull is"),
+        (
+            WRITE_INDEX,
+            u32::MAX,
+            Some(next),
+            "write index 4294967295: a pull is",
+        ),
     ] {
         let mut writer = Writer::started();
         writer.poke(at, index);
         let odd = format!("{said} refused with 7: the partner's index is out of rule {rule}");
-        let unknown = "ring unknown what is unread, as an index is out of rule";
-        writer.says(
-            group,
-            "an index out of rule",
-            &[unknown, "odd 1 thing", &odd],
-        );
+        let mut lines = vec!["ring unknown what is unread, as an index is out of rule"];
+        lines.extend(shown);
+        lines.extend(["odd 1 thing", &odd]);
+        writer.says(group, "an index out of rule", &lines);
     }
 }
 
@@ -335,7 +342,7 @@ pub fn refused(group: &mut Group) {
         (usual, 0, "refused with 6: the region has 2048 bytes and the file 0"),
     ];
     for (request, length, line) in cases {
-        let text = show(&request, &vec![0; length]);
+        let text = show(&request, &vec![0; length]).unwrap_or_else(|refused| refused);
         says(
             group,
             "a refused dump",

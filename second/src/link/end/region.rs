@@ -81,8 +81,8 @@ impl Region {
 
     /// Where a block begins, counted from the first byte of the raw region.
     pub fn block_offset(&self, block: u32) -> usize {
-        let first = self.layout.blocks_begin - self.request.begin;
-        first as usize + self.bytes_of(block) as usize
+        let blocks_at = self.layout.blocks_begin - self.request.begin;
+        blocks_at as usize + self.bytes_of(block) as usize
     }
 
     /// Where the header of a message lies that starts at this block.

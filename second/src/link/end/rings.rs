@@ -70,8 +70,8 @@ fn transmitted(range: Range<usize>) -> Written {
 /// Places of a region's ring, counted from the first byte of the raw region.
 impl Region {
     pub fn read_index_place(&self) -> Range<usize> {
-        let begin = (self.layout.begin - self.request.begin) as usize;
-        begin..begin + UNIT
+        let ring_at = (self.layout.begin - self.request.begin) as usize;
+        ring_at..ring_at + UNIT
     }
 
     pub fn write_index_place(&self) -> Range<usize> {

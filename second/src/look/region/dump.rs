@@ -29,7 +29,8 @@ pub struct Packet {
     /// Its index in the data.
     pub at: u32,
     pub content: Vec<u8>,
-    /// What it announces; none of a start.
+    /// What it says, or what its arrival is refused with. To an arrival a start
+    /// is of unknown kind.
     pub said: Result<Said, Refusal>,
 }
 
@@ -195,7 +196,7 @@ impl<'a> Dump<'a> {
     }
 
     /// The data from an index on, once around.
-    fn data_at(&self, index: u32) -> impl Iterator<Item = u8> + '_ {
+    pub fn data_at(&self, index: u32) -> impl Iterator<Item = u8> + '_ {
         let length = self.region.layout.data_length as usize;
         let places = self.region.data_places(index, length);
         places.flat_map(|place| self.bytes[place].iter().copied())

@@ -6,35 +6,36 @@ mod ring;
 
 pub use dump::Dump;
 
-use dump::Odd;
-
 use super::words::{counted, refused};
 use crate::link::layout::Request;
 use crate::link::refusal::Refusal;
+use dump::Odd;
 
 /// Odd things that are listed.
 const MOST_ODD: usize = 6;
 
-/// Shows any bytes as the region that is asked for.
-pub fn show(request: &Request, bytes: &[u8]) -> String {
-    match Dump::read(request, bytes) {
-        Ok(dump) => {
-            let parts = [
-                layout(&dump),
-                ring::show(&dump),
-                blocks::show(&dump),
-                odd(&dump),
-            ];
-            parts.join("\n")
-        }
-        Err(Refusal::WrongRegion) => format!(
+/// What a dump does not show.
+const PRIVATE: &str = "What an end keeps privately (own indexes, messages, endpoints) is not in a \
+                       dump; 15, 18, 19, 21, 22 and 25 depend on it.";
+
+/// Any bytes as the region that is asked for; an error says why they are none.
+pub fn show(request: &Request, bytes: &[u8]) -> Result<String, String> {
+    let dump = Dump::read(request, bytes).map_err(|refusal| match refusal {
+        Refusal::WrongRegion => format!(
             "{request}\nrefused with {}: the region has {} bytes and the file {}\n",
-            Refusal::WrongRegion as u32,
+            refusal as u32,
             request.end - request.begin,
             bytes.len(),
         ),
-        Err(refusal) => format!("{request}\n{}\n", refused(refusal)),
-    }
+        _ => format!("{request}\n{}\n", refused(refusal)),
+    })?;
+    let parts = [
+        layout(&dump),
+        ring::show(&dump),
+        blocks::show(&dump),
+        odd(&dump),
+    ];
+    Ok(parts.join("\n"))
 }
 
 fn layout(dump: &Dump) -> String {
@@ -52,7 +53,7 @@ fn layout(dump: &Dump) -> String {
          \x20 {}  data, {} bytes\n\
          \x20 0x{:08x}  blocks, {} of {} bytes\n\
          \x20 0x{:08x}  end\n\
-         What an end keeps privately is not in a dump; 15, 18, 19, 21, 22 and 25 depend on it.\n",
+         {PRIVATE}\n",
         dump.region.request,
         dump.bytes.len(),
         address(read),

@@ -15,12 +15,20 @@ const MOST_PACKETS: usize = 8;
 /// Bytes of a content that are shown; a control message has three.
 const SHOWN: usize = 4;
 
+/// Bytes that are shown where it is unknown what is unread.
+const NEXT_SHOWN: usize = 24;
+
 pub fn show(dump: &Dump) -> String {
     let mut text = format!("ring    {}\n  {}\n", fullness(dump), picture(dump));
     let lines: Vec<String> = dump.packets.iter().map(packet_line).collect();
     text += &listed(&lines, MOST_PACKETS);
-    if dump.unread() == Some(0) && dump.starts_at_0() {
-        text += "  a start packet stands at 0, pulled already\n";
+    match dump.unread() {
+        Some(0) if dump.starts_at_0() => text += "  a start packet stands at 0, pulled already\n",
+        None if dump.in_rule(dump.read_index) => {
+            let next: Vec<u8> = dump.data_at(dump.read_index).take(NEXT_SHOWN).collect();
+            text += &format!("  from the read index on: {}\n", hex(&next, NEXT_SHOWN));
+        }
+        _ => {}
     }
     text
 }
@@ -69,7 +77,7 @@ fn picture(dump: &Dump) -> String {
         }
     }
     format!(
-        "[{}]  R read, W write, X both; a cell is {}",
+        "[{}]  R read, W write, X both, = unread; a cell is {}",
         cells.escape_ascii(),
         counted(bytes_per_cell, "byte")
     )
