@@ -1,4 +1,4 @@
-//! The independent implementation: one end of a link, by the outline alone.
+//! The independent implementation: one end of a link, from the rules alone.
 
 pub mod end;
 pub mod fault;

@@ -1,6 +1,6 @@
 //! The comparison of the two rings.
 
-pub mod calls;
+mod calls;
 mod causes;
 pub mod hostile;
 pub mod inputs;
