@@ -33,7 +33,7 @@ refusals! {
     TooSmall = 4,
     /// the two regions share a byte
     Overlap = 5,
-    /// the lent bytes are not the whole region, the own index is out of rule, or the end is closed
+    /// the lent slice is not the whole region, or the end is closed
     WrongRegion = 6,
     /// the partner's index is out of rule
     BadIndex = 7,

@@ -1,6 +1,9 @@
-//! Bytes, control messages and outcomes in words.
+//! Bytes, regions, control messages and outcomes in words.
+
+use std::fmt::{self, Display, Formatter};
 
 use crate::link::end::Control;
+use crate::link::layout::Request;
 use crate::link::refusal::Refusal;
 use crate::link::ring::is_start;
 
@@ -74,4 +77,24 @@ pub fn control(control: Control) -> String {
 pub fn counted(count: usize, what: &str) -> String {
     let ending = if count == 1 { "" } else { "s" };
     format!("{count} {what}{ending}")
+}
+
+/// A number of shared memory that makes no sense: it may be an address, or have
+/// its bytes in another order.
+pub fn strange(number: u32) -> String {
+    format!("{number} (0x{number:08x})")
+}
+
+impl Display for Request {
+    fn fmt(&self, f: &mut Formatter) -> fmt::Result {
+        write!(
+            f,
+            "region {:#x} to {:#x}, {}, other region {}, alignment {}",
+            self.begin,
+            self.end,
+            counted(self.local_blocks as usize, "block"),
+            self.remote_blocks,
+            self.alignment
+        )
+    }
 }

@@ -107,16 +107,6 @@ impl Display for Outcome {
     }
 }
 
-impl Display for Request {
-    fn fmt(&self, f: &mut Formatter) -> fmt::Result {
-        write!(
-            f,
-            "region {:#x} to {:#x}, {} blocks, other region {}, alignment {}",
-            self.begin, self.end, self.local_blocks, self.remote_blocks, self.alignment
-        )
-    }
-}
-
 /// Asks both implementations, which must agree; gives both answers.
 fn compare(
     group: &mut Group,

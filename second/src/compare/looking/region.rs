@@ -181,14 +181,24 @@ fn indexes(group: &mut Group) {
     let next = "from the read index on: 00 0d 00 00 45 6d 31 6c 31 4b 30 72 6e 33 6c 69 34 \
                 00 00 00 00 00 00 00";
     for (at, index, shown, said) in [
-        (READ_INDEX, 476, None, "read index 476: a push is"),
-        (READ_INDEX, 6, None, "read index 6: a push is"),
-        (WRITE_INDEX, 21, Some(next), "write index 21: a pull is"),
+        (
+            READ_INDEX,
+            476,
+            None,
+            "read index 476 (0x000001dc): a push is",
+        ),
+        (READ_INDEX, 6, None, "read index 6 (0x00000006): a push is"),
+        (
+            WRITE_INDEX,
+            21,
+            Some(next),
+            "write index 21 (0x00000015): a pull is",
+        ),
         (
             WRITE_INDEX,
             u32::MAX,
             Some(next),
-            "write index 4294967295: a pull is",
+            "write index 4294967295 (0xffffffff): a pull is",
         ),
     ] {
         let mut writer = Writer::started();
@@ -289,7 +299,7 @@ fn refused_arrivals(group: &mut Group) {
         &[
             "odd 3 things",
             "packet at 64: its arrival is refused with 17: K + 4 bytes run past the last block \
-             (K 1053 in block 5)",
+             (K 1053 (0x0000041d) in block 5)",
             "packet at 72: its arrival is refused with 20: the name is empty, too long, has a zero \
              or is not zero-ended (no bytes)",
             "packet at 88: its arrival is refused with 18: a block of the message is held already \

@@ -7,7 +7,7 @@ use crate::link::end::{number_at, Control, ControlKind, Message, Name, Region};
 use crate::link::layout::Request;
 use crate::link::refusal::{refuse, Refusal};
 use crate::link::ring::{self, is_start, packet_length, LONGEST_CONTENT};
-use crate::look::words::{hex, refused, text_or_hex};
+use crate::look::words::{hex, refused, strange, text_or_hex};
 
 /// Bytes of a bad name that are shown.
 const NAME_SHOWN: usize = 16;
@@ -155,7 +155,7 @@ impl<'a> Dump<'a> {
         for (name, index, call) in indexes {
             if !self.in_rule(index) {
                 self.odd.push(Odd {
-                    place: format!("{name} index {index}: a {call} is"),
+                    place: format!("{name} index {}: a {call} is", strange(index)),
                     refusal: Some(Refusal::BadIndex),
                     note: rule.clone(),
                 });
@@ -219,7 +219,7 @@ impl<'a> Dump<'a> {
             }
             Refusal::PastTheLastBlock => {
                 let k = self.region.read_k(self.bytes, control.start());
-                format!("K {k} in block {block}")
+                format!("K {} in block {block}", strange(k))
             }
             Refusal::BadName => {
                 let message = self.region.header(control.start()).end;
