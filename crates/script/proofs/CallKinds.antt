@@ -16,9 +16,10 @@ use Rattle.icbmsg.specs.Arrivals.{arrivalRule}
 use Rattle.icbmsg.specs.Calls.{rule, lent, step, pull}
 use Rattle.icbmsg.specs.End.{End}
 use Rattle.script.specs.Rows.{replyOf}
-use Rattle.script.specs.Records.{numberAt, has}
+use Rattle.script.specs.Records.{numberAt, bodyOf, admits, has}
 use Rattle.script.specs.Calls.{callOf, callOutcome, RanAs}
 use Rattle.script.specs.declared.calls.Ran.{Ran}
+use Rattle.script.specs.declared.kinds.Body.the-variants.{Unknown, Exactly, AtLeast}
 
 -- ---- outcomes
 
@@ -102,12 +103,12 @@ kind-21 e b tx rx buffer k s i n j h =
 
 -- ---- bodies
 
-last-body : (b : Bool) (n : ℕ) → pick (false || (b || false)) (eqb n 8) ((false || false) && leb 4 n) ≡ true → n ≡ 8
+last-body : (b : Bool) (n : ℕ) → admits (pick (false || (b || false)) (Exactly 8) (pick (false || false) (AtLeast 4) Unknown)) n ≡ true → n ≡ 8
 last-body true n h = eqb-true n 8 h
 last-body false n h = absurd (false≢true h)
 
 pub body-21 : (k n : ℕ) → LastCall k → (k ≡ 32 → ⊥) → (k ≡ 33 → ⊥) → (k ≡ 34 → ⊥) → has k n ≡ true → n ≡ 8
-unfolding has
+unfolding has bodyOf
 body-21 k n h u v w p =
     last-body (eqb k 21) n
     (rw (ne-eqb k 0 (h .n0), ne-eqb k 1 (h .n1), ne-eqb k 6 (h .n6), ne-eqb k 2 (h .n2), ne-eqb k 4 (h .n4), ne-eqb k 5 (h .n5), ne-eqb k 18 (h .n18), ne-eqb k 19 (h .n19), ne-eqb k 3 (h .n3), ne-eqb k 16 (h .n16), ne-eqb k 17 (h .n17), ne-eqb k 20 (h .n20), ne-eqb k 34 w, ne-eqb k 32 u, ne-eqb k 33 v) at p)
@@ -115,45 +116,45 @@ body-21 k n h u v w p =
 module _ (k n : ℕ) (p : has k n ≡ true) where
   -- a body of m bytes, by its kind
   pub body-2 : k ≡ 2 → n ≡ 4
-  unfolding has
+  unfolding has bodyOf
   body-2 h = eqb-true n 4 (rw h at p)
 
   pub body-3 : k ≡ 3 → n ≡ 12
-  unfolding has
+  unfolding has bodyOf
   body-3 h = eqb-true n 12 (rw h at p)
 
   pub body-4 : k ≡ 4 → n ≡ 4
-  unfolding has
+  unfolding has bodyOf
   body-4 h = eqb-true n 4 (rw h at p)
 
   pub body-5 : k ≡ 5 → n ≡ 4
-  unfolding has
+  unfolding has bodyOf
   body-5 h = eqb-true n 4 (rw h at p)
 
   pub body-17 : k ≡ 17 → n ≡ 2
-  unfolding has
+  unfolding has bodyOf
   body-17 h = eqb-true n 2 (rw h at p)
 
   pub body-18 : k ≡ 18 → n ≡ 4
-  unfolding has
+  unfolding has bodyOf
   body-18 h = eqb-true n 4 (rw h at p)
 
   pub body-19 : k ≡ 19 → n ≡ 4
-  unfolding has
+  unfolding has bodyOf
   body-19 h = eqb-true n 4 (rw h at p)
 
   pub body-20 : k ≡ 20 → n ≡ 8
-  unfolding has
+  unfolding has bodyOf
   body-20 h = eqb-true n 8 (rw h at p)
 
   pub body-32 : k ≡ 32 → 4 ≤ n
-  unfolding has
+  unfolding has bodyOf
   body-32 h = leb-true 4 n (rw h at p)
 
   pub body-33 : k ≡ 33 → 4 ≤ n
-  unfolding has
+  unfolding has bodyOf
   body-33 h = leb-true 4 n (rw h at p)
 
   pub body-34 : k ≡ 34 → n ≡ 8
-  unfolding has
+  unfolding has bodyOf
   body-34 h = eqb-true n 8 (rw h at p)

@@ -10,6 +10,7 @@ ghost use Rattle.link.specs.Answers.{answerNumber, answerGiven, endOf, answered
 ghost use Rattle.script.specs.Rows.{reply};
 ghost use Rattle.script.specs.Records.{has};
 ghost use Rattle.script.specs.Calls.{IsCall, RanAs, Wrote, callOutcome, overwritten, Leaves, recordStep, stepOf};
+use crate::kinds;
 use crate::rows;
 use link::Answer;
 use link::Called;
@@ -128,23 +129,23 @@ fn call(mut end: End, kind: u8, body: &[u8], tx: &mut [u8], rx: &mut [u8], buffe
     let ps = end.endpoints;
     let bs = end.bindings;
     match kind {
-        0 => of_call(End::arrival(n, ps, bs, &mut end.tables, rx, body), end),
-        1 => of_call(End::register(n, ps, bs, &mut end.tables, tx, body), end),
-        2 => of_answer(End::reserve(n, &mut end.tables, read_u32(body, 0)), end),
-        3 => {
+        kinds::ARRIVAL => of_call(End::arrival(n, ps, bs, &mut end.tables, rx, body), end),
+        kinds::REGISTER => of_call(End::register(n, ps, bs, &mut end.tables, tx, body), end),
+        kinds::RESERVE => of_answer(End::reserve(n, &mut end.tables, read_u32(body, 0)), end),
+        kinds::SEND => {
             let start = read_u32(body, 0);
             let to = read_u32(body, 4);
             let k = read_u32(body, 8);
             of_answer(End::send(n, ps, &mut end.tables, tx, start, to, k), end)
         }
-        4 => of_answer(End::drop(n, &mut end.tables, read_u32(body, 0)), end),
-        5 => of_answer(End::done(n, &mut end.tables, read_u32(body, 0)), end),
-        6 => of_ring_call(End::push(n, tx, body), end),
-        16 => of_ring_call(End::start(n, tx), end),
-        17 => pull(end, rx, buffer, wire::read_u16(body, 0)),
-        18 => room(end, tx, read_u32(body, 0)),
-        19 => view(end, rx, read_u32(body, 0)),
-        20 => {
+        kinds::DROP => of_answer(End::drop(n, &mut end.tables, read_u32(body, 0)), end),
+        kinds::DONE => of_answer(End::done(n, &mut end.tables, read_u32(body, 0)), end),
+        kinds::PUSH => of_ring_call(End::push(n, tx, body), end),
+        kinds::START => of_ring_call(End::start(n, tx), end),
+        kinds::PULL => pull(end, rx, buffer, wire::read_u16(body, 0)),
+        kinds::ROOM => room(end, tx, read_u32(body, 0)),
+        kinds::VIEW => view(end, rx, read_u32(body, 0)),
+        kinds::ROOM_QUESTION => {
             let lent = read_u32(body, 4) as usize;
             of_answer(End::ask_room(n, &end.tables, read_u32(body, 0), lent), end)
         }
@@ -182,7 +183,7 @@ pub(super) fn step(
     ensures memory { λ _. ⌜ Leaves kind (now (body .entry)) (callOutcome (endOf end) kind (now (body .entry)) (take (lent .tx) (now (tx .entry))) (take (lent .rx) (now (rx .entry))) (now (buffer .entry))) (now (tx .entry)) (now (rx .entry)) (now (buffer .entry)) (now (tx .exit)) (now (rx .exit)) (now (buffer .exit)) ⌝ }
 {
     match kind {
-        32 => {
+        kinds::WRITE_RECEIVE => {
             overwrite(rx, body);
             Stepped {
                 reply: [0; 9],
@@ -190,7 +191,7 @@ pub(super) fn step(
                 lent,
             }
         }
-        33 => {
+        kinds::WRITE_TRANSMIT => {
             overwrite(tx, body);
             Stepped {
                 reply: [0; 9],
@@ -198,7 +199,7 @@ pub(super) fn step(
                 lent,
             }
         }
-        34 => Stepped {
+        kinds::LEND => Stepped {
             reply: [0; 9],
             end,
             lent: Lent {

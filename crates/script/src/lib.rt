@@ -1,6 +1,7 @@
 // Runs a call script (docs/SCRIPT.md) on one end: its opening, then each of its records.
 mod calls;
-mod records;
+pub mod kinds;
+pub mod records;
 mod rows;
 
 ghost use mathlib.Core.Bool.{true};

@@ -2,6 +2,8 @@
 ghost use mathlib.Core.Path.{_≡_};
 ghost use lib.ListN.{length};
 ghost use Rattle.script.specs.Records.{begun, bytesOf, has as hasRule, firstRecord};
+use crate::kinds::Body;
+use crate::kinds::body_of;
 use icbmsg::Bounds;
 use icbmsg::Opening;
 
@@ -61,25 +63,12 @@ pub fn bytes(b: Bounds) -> usize
 fn has(kind: u8, n: usize) -> bool
     ensures { λ r. ⌜ r ≡ hasRule kind n ⌝ }
 {
-    if (kind == 0) | ((kind == 1) | (kind == 6)) {
-        return true;
+    match body_of(kind) {
+        Body::Unknown => false,
+        Body::Any => true,
+        Body::Exactly(m) => n == m,
+        Body::AtLeast(m) => m <= n,
     }
-    if (kind == 2) | ((kind == 4) | ((kind == 5) | ((kind == 18) | (kind == 19)))) {
-        return n == 4;
-    }
-    if kind == 3 {
-        return n == 12;
-    }
-    if kind == 16 {
-        return n == 0;
-    }
-    if kind == 17 {
-        return n == 2;
-    }
-    if (kind == 20) | ((kind == 21) | (kind == 34)) {
-        return n == 8;
-    }
-    ((kind == 32) | (kind == 33)) & (4 <= n)
 }
 
 // The record that the rest of a script begins with.
