@@ -18,7 +18,7 @@ compared = target/second/release/second
 shown = layout ring
 examples = $(shown) script
 
-.PHONY: help demo test library examples-test starter script_main second script region soak faults bench measure clean need-file
+.PHONY: help demo test library examples-test packets starter script_main second script region soak faults bench measure instructions clean need-file
 
 help: ## this list
 	@sed -n 's/^\([a-z_-]*\):.*## \(.*\)/  make \1\t\2/p' Makefile | expand -t 24
@@ -56,6 +56,9 @@ examples-test: $(examples:%=target/examples/%) ## the examples for C, and what t
 	for name in $(examples); do target/examples/$$name | diff examples/$$name.expected -; done
 	if command -v g++ >/dev/null; then g++ -x c++ -std=c++11 $(filter -W%,$(CFLAGS)) -fsyntax-only include/*.h; fi
 
+packets: target/bench/packets ## four million packets from process to process, each compared
+	@target/bench/packets
+
 second: $(panel) $(script) ## the second program, linked with the proved libraries: target/second/release/second
 	@cargo build --release --offline --quiet --manifest-path second/Cargo.toml --target-dir target/second
 
@@ -74,6 +77,9 @@ bench: target/bench/ring target/bench/calls ## nanoseconds of the proved ring an
 measure: $(panel) $(rounds) target/bench/calls ## stack and copies of the compiled calls, and the size of an end
 	@for library in $(panel) $(rounds); do objdump -dr --no-show-raw-insn $$library | awk -f bench/frames.awk; echo; done
 	@target/bench/calls | tail -n 1
+
+instructions: target/bench/calls ## instructions of the proved calls and of plain C, as valgrind counts them
+	@bench/instructions.sh
 
 clean: ## remove target/
 	rm -rf target
@@ -116,6 +122,7 @@ target/bench/%.o: bench/%.c $(wildcard bench/*.h) include/petrelknob.h
 	@gcc $(CFLAGS) -Ibench -c -o $@ $<
 
 target/bench/ring: target/bench/ring.o target/bench/plain_ring.o $(panel)
+target/bench/packets: target/bench/packets.o $(panel)
 target/bench/calls: target/bench/calls.o target/bench/plain_end.o target/bench/plain_open.o $(rounds)
-target/bench/ring target/bench/calls:
+target/bench/ring target/bench/packets target/bench/calls:
 	@gcc $(CFLAGS) -o $@ $^
