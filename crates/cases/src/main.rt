@@ -12,14 +12,18 @@ fn opened() -> End {
     let tx = Bounds {
         begin: 0x20070000,
         end: 0x20070000 + REGION,
-        blocks: 3,
+        block_count: 3,
     };
     let rx = Bounds {
         begin: 0x20078000,
         end: 0x20078000 + REGION,
-        blocks: 3,
+        block_count: 3,
     };
-    let opened = End::open(Opening { align: 4, tx, rx });
+    let opened = End::open(Opening {
+        alignment: 4,
+        tx,
+        rx,
+    });
     opened.end
 }
 
@@ -48,7 +52,7 @@ fn main() {
     let tx: &mut [u8] = &mut region;
     let mut end = opened();
     let line = Line::new().text(b"a ring with ");
-    line.number(end.numbers.tx.ring)
+    line.number(end.numbers.tx.data_length)
         .text(b" data bytes")
         .print();
     let mut i: u32 = 1;

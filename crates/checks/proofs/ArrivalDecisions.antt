@@ -43,12 +43,12 @@ use Rattle.checks.proofs.OpenSays.{open-says, run-inside}
 -- ---- what the code measured
 
 -- check 6 of a measure passes: an open end's receive region is lent whole
-pub lent-whole : (e : End) (n : ℕ) → isOpen e ≡ true → n ≡ e .rx .bytes → areLent n (e .rx) ≡ true
+pub lent-whole : (e : End) (n : ℕ) → isOpen e ≡ true → n ≡ e .rx .length → areLent n (e .rx) ≡ true
 lent-whole e n h q =
     let o = open-says e h .rx in
-    let a = le-leb 4 (e .rx .size) (o .size) in
-    let b = le-leb (e .rx .count) 256 (o .few) in
-    let c = le-leb (e .rx .blocks + e .rx .count * e .rx .size) n (omega (arith, o .blocks)) in
+    let a = le-leb 4 (e .rx .«block_size») (o .size) in
+    let b = le-leb (e .rx .«block_count») 256 (o .few) in
+    let c = le-leb (e .rx .«blocks_offset» + e .rx .«block_count» * e .rx .«block_size») n (omega (arith, o .blocks)) in
     let d = le-leb n 1048576 (omega (arith, o .bytes)) in
     rw (a, b, c, d)
 
@@ -67,7 +67,7 @@ module _ (m : Measured) (n : ℕ) (h : measuredNumber m ≡ n) where
   measured-fits k c o e q = rw (← h, q)
 
 pub measured-says : (m : Measured) (g : Region) (b k l n : ℕ) → MeasuredAs m g b k → m ≡ Fits l n →
-    (l ≡ k) × (n ≡ blocksFor (g .size) k) × (1 ≤ n) × (b + n ≤ g .count) × (k + 4 ≤ n * g .size)
+    (l ≡ k) × (n ≡ blocksFor (g .«block_size») k) × (1 ≤ n) × (b + n ≤ g .«block_count») × (k + 4 ≤ n * g .«block_size»)
 measured-says m g b k l n h q = rw q at h
 
 -- ---- kind 0
@@ -80,17 +80,17 @@ module _ (e : End) (a b : ℕ) (r : List ℕ) where
     pub data-15 : someEndpoint (boundAt a) (e .endpoints) ≡ false → answer (dataRule e a b) r ≡ refused e 15
     data-15 i = data-flat e a b r ∙ rw (le-leb a 0xFD h, i)
 
-    module _ (i : someEndpoint (boundAt a) (e .endpoints) ≡ true) (o : isOpen e ≡ true) (n : ℕ) (l : n ≡ e .rx .bytes) where
+    module _ (i : someEndpoint (boundAt a) (e .endpoints) ≡ true) (o : isOpen e ≡ true) (n : ℕ) (l : n ≡ e .rx .length) where
       data-passed : answer (dataRule e a b) r ≡ passed (placeNumber n (e .rx) (e .held) b (sizeAt (e .rx) b r)) (received e a b (sizeAt (e .rx) b r)) (refused e)
       data-passed =
           let k : ℕ = sizeAt (e .rx) b r in
-          data-flat e a b r ∙ rw (le-leb a 0xFD h, i, lent-whole e n o l) (three-checks (ltb b (e .rx .count)) (fitsArea (e .rx) b k) (areFree (e .held) (e .rx) b k) e (received e a b k))
+          data-flat e a b r ∙ rw (le-leb a 0xFD h, i, lent-whole e n o l) (three-checks (ltb b (e .rx .«block_count»)) (fitsArea (e .rx) b k) (areFree (e .held) (e .rx) b k) e (received e a b k))
 
       pub data-measured : (m : Measured) → measuredNumber m ≡ placeNumber n (e .rx) (e .held) b (sizeAt (e .rx) b r) → MeasuredAs m (e .rx) b (sizeAt (e .rx) b r) → DataAs m e a b r
       data-measured (Measured.Refused x) p q = data-passed ∙ measured-refused (Measured.Refused x) _ p x _ e refl
       data-measured (Fits k c) p q =
           let s = open-says e o .rx in
-          let i = run-inside (e .align) (e .rx) b c s (q .3) in
+          let i = run-inside (e .alignment) (e .rx) b c s (q .3) in
           (data-passed ∙ measured-fits (Fits k c) _ p k c _ e refl ∙ rw (q .0, q .1), q .2, omega (arith, q .3, s .few), omega (arith, i, q .0, q .4, s .bytes))
 
 -- ---- kind 3
@@ -102,16 +102,16 @@ module _ (e : End) (a b : ℕ) where
 
   module _ (h : a ≤ 0xFD) where
     -- 16, 25
-    pub unbind-refused : (x : Refusal) → ((o : Outcome) → check (ltb b (e .tx .count)) 16 e (check (starts SentBinding (e .tx .count) (e .sent) b) 25 e o) ≡ refused e (numberOf x)) → releasedBoundOf e a b ≡ refused e (numberOf x)
+    pub unbind-refused : (x : Refusal) → ((o : Outcome) → check (ltb b (e .tx .«block_count»)) 16 e (check (starts SentBinding (e .tx .«block_count») (e .sent) b) 25 e o) ≡ refused e (numberOf x)) → releasedBoundOf e a b ≡ refused e (numberOf x)
     unfolding releasedBoundOf
-    unbind-refused x k = rw (le-leb a 0xFD h) (both-checks (ltb b (e .tx .count)) (starts SentBinding (e .tx .count) (e .sent) b) _ _ ∙ k _)
+    unbind-refused x k = rw (le-leb a 0xFD h) (both-checks (ltb b (e .tx .«block_count»)) (starts SentBinding (e .tx .«block_count») (e .sent) b) _ _ ∙ k _)
       where
         both-checks : (p q r : Bool) (o : Outcome) → check p 16 e (check (q && r) 25 e o) ≡ check p 16 e (check q 25 e (check r 25 e o))
         both-checks true true r o = refl
         both-checks true false r o = refl
         both-checks false q r o = refl
 
-    module _ (k : ltb b (e .tx .count) ≡ true) (x : Entry) (p : starts SentBinding (e .tx .count) (e .sent) b ≡ true) (l : x ≡ entry (e .sent) b) where
+    module _ (k : ltb b (e .tx .«block_count») ≡ true) (x : Entry) (p : starts SentBinding (e .tx .«block_count») (e .sent) b ≡ true) (l : x ≡ entry (e .sent) b) where
       pub unbind-other : (x .address ≡ a → ⊥) → releasedBoundOf e a b ≡ refused e 25
       unfolding releasedBoundOf
       unbind-other d = rw (le-leb a 0xFD h, p, k, ← l, ne-eqb (x .address) a d)
@@ -168,12 +168,12 @@ module _ (e : End) (a b : ℕ) (r : List ℕ) where
     bound-14 h = bound-flat e a b r ∙ rw (i, lt-leb a 0xFD h)
 
     pub bound-measured : a ≤ 0xFD → (n : ℕ) → areLent n (e .rx) ≡ true → let k : ℕ = sizeAt (e .rx) b r in answer (boundRule e a b) r
-        ≡ passed (placeNumber n (e .rx) (e .held) b k) (withName e (boundNamed e a b (blocksFor (e .rx .size) k)) (nameIn (min k 32) (contentAt e b) r)) (refused e)
+        ≡ passed (placeNumber n (e .rx) (e .held) b k) (withName e (boundNamed e a b (blocksFor (e .rx .«block_size») k)) (nameIn (min k 32) (contentAt e b) r)) (refused e)
     bound-measured h n l =
         let k : ℕ = sizeAt (e .rx) b r in
-        let o : Outcome = withName e (boundNamed e a b (blocksFor (e .rx .size) k)) (nameIn (min k 32) (contentAt e b) r) in
-        bound-flat e a b r ∙ ap (λ (x : Bool). check (not x) 19 e (check (leb a 0xFD) 14 e (check (ltb b (e .rx .count)) 16 e (check (fitsArea (e .rx) b k) 17 e (check (areFree (e .held) (e .rx) b k) 18 e o))))) i
-        ∙ rw (le-leb a 0xFD h, l) (three-checks (ltb b (e .rx .count)) (fitsArea (e .rx) b k) (areFree (e .held) (e .rx) b k) e o)
+        let o : Outcome = withName e (boundNamed e a b (blocksFor (e .rx .«block_size») k)) (nameIn (min k 32) (contentAt e b) r) in
+        bound-flat e a b r ∙ ap (λ (x : Bool). check (not x) 19 e (check (leb a 0xFD) 14 e (check (ltb b (e .rx .«block_count»)) 16 e (check (fitsArea (e .rx) b k) 17 e (check (areFree (e .held) (e .rx) b k) 18 e o))))) i
+        ∙ rw (le-leb a 0xFD h, l) (three-checks (ltb b (e .rx .«block_count»)) (fitsArea (e .rx) b k) (areFree (e .held) (e .rx) b k) e o)
 
   -- by the name that the code found
   pub name-endless : (f : List ℕ → Outcome) (m : Name) → m ≡ endless → withName e f m ≡ refused e 20

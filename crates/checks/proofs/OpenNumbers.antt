@@ -16,6 +16,6 @@ all-append [] ys = refl
 all-append (true ∷ xs) ys = all-append xs ys
 all-append (false ∷ xs) ys = refl
 
-pub open-of : (a : ℕ) (t r : Region) (w i : ℕ) (x y p q : Bool) → x ≡ inRule (t .ring) w → y ≡ inRule (r .ring) i → p ≡ all (soundRegion a t) → q ≡ all (soundRegion a r) →
+pub open-of : (a : ℕ) (t r : Region) (w i : ℕ) (x y p q : Bool) → x ≡ inRule (t .«data_length») w → y ≡ inRule (r .«data_length») i → p ≡ all (soundRegion a t) → q ≡ all (soundRegion a r) →
     (leb 4 a && (leb a 256 && (eqb (a % 4) 0 && (x && (y && (p && q)))))) ≡ openNumbers a t r w i
 open-of a t r w i x y p q h k l m = rw (h, k, l, m, all-append (soundRegion a t) (soundRegion a r)) (simp and-pick)

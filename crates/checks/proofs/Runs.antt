@@ -50,24 +50,24 @@ module _ (r : Run) (n : ℕ) (p b : Bool) (y : Entry) (h : RunAs r n p b y) wher
 
 -- ---- room for a message
 
-module _ (g : Region) (t : List Entry) (k m : ℕ) (q : m ≡ blocksFor (g .size) k) (e : End) (f : ℕ → Outcome) where
-  pub fit-23 : g .count < m → check (leb (blocksFor (g .size) k) (g .count)) 23 e (foundOr 24 e f (freeRun (g .count) t (blocksFor (g .size) k))) ≡ refused e 23
-  fit-23 l = rw (← q, lt-leb m (g .count) l)
+module _ (g : Region) (t : List Entry) (k m : ℕ) (q : m ≡ blocksFor (g .«block_size») k) (e : End) (f : ℕ → Outcome) where
+  pub fit-23 : g .«block_count» < m → check (leb (blocksFor (g .«block_size») k) (g .«block_count»)) 23 e (foundOr 24 e f (freeRun (g .«block_count») t (blocksFor (g .«block_size») k))) ≡ refused e 23
+  fit-23 l = rw (← q, lt-leb m (g .«block_count») l)
 
-  pub fit-24 : m ≤ g .count → freeRun (g .count) t m ≡ nowhere →
-      check (leb (blocksFor (g .size) k) (g .count)) 23 e (foundOr 24 e f (freeRun (g .count) t (blocksFor (g .size) k))) ≡ refused e 24
-  fit-24 l h = rw (← q, le-leb m (g .count) l, h)
+  pub fit-24 : m ≤ g .«block_count» → freeRun (g .«block_count») t m ≡ nowhere →
+      check (leb (blocksFor (g .«block_size») k) (g .«block_count»)) 23 e (foundOr 24 e f (freeRun (g .«block_count») t (blocksFor (g .«block_size») k))) ≡ refused e 24
+  fit-24 l h = rw (← q, le-leb m (g .«block_count») l, h)
 
-  pub fit-at : (s : ℕ) → m ≤ g .count → freeRun (g .count) t m ≡ foundAt s →
-      check (leb (blocksFor (g .size) k) (g .count)) 23 e (foundOr 24 e f (freeRun (g .count) t (blocksFor (g .size) k))) ≡ f s
-  fit-at s l h = rw (← q, le-leb m (g .count) l, h)
+  pub fit-at : (s : ℕ) → m ≤ g .«block_count» → freeRun (g .«block_count») t m ≡ foundAt s →
+      check (leb (blocksFor (g .«block_size») k) (g .«block_count»)) 23 e (foundOr 24 e f (freeRun (g .«block_count») t (blocksFor (g .«block_size») k))) ≡ f s
+  fit-at s l h = rw (← q, le-leb m (g .«block_count») l, h)
 
-pub reserve-6 : (n : Numbers) (t : List ℕ) (k : ℕ) (ps : List Endpoint) (bs : List Binding) → openNumbers (n .align) (n .tx) (n .rx) (n .write) (n .read) ≡ false →
+pub reserve-6 : (n : Numbers) (t : List ℕ) (k : ℕ) (ps : List Endpoint) (bs : List Binding) → openNumbers (n .alignment) (n .tx) (n .rx) (n .write) (n .read) ≡ false →
     reserveOf (joined n t ps bs) k ≡ refused (joined n t ps bs) 6
 unfolding reserveOf isOpen
 reserve-6 n t k ps bs h = rw h
 
-module _ (n : Numbers) (t : List ℕ) (k : ℕ) (h : openNumbers (n .align) (n .tx) (n .rx) (n .write) (n .read) ≡ true) (few : n .tx .count ≤ 256) where
+module _ (n : Numbers) (t : List ℕ) (k : ℕ) (h : openNumbers (n .alignment) (n .tx) (n .rx) (n .write) (n .read) ≡ true) (few : n .tx .«block_count» ≤ 256) where
   pub reserves : (r : Space) → FitAs r (n .tx) (tableOf t 0) k → ReservesAs r n t k
   unfolding reserveOf isOpen
   reserves (Space.Refused x) f = λ ps bs. rw h (f (joined n t ps bs) (reservation (joined n t ps bs) k))
@@ -80,16 +80,16 @@ pub record PartIn (g : Region) (s m n : ℕ) : Type 0 where
   pub low : s < 256
   pub few : m ≤ 256
   pub ends : s + m ≤ 256
-  pub inside : g .blocks + s * g .size + m * g .size ≤ n
+  pub inside : g .«blocks_offset» + s * g .«block_size» + m * g .«block_size» ≤ n
   pub most : n ≤ 1048576
-  pub four : 4 ≤ m * g .size
-  pub product : s * g .size ≤ n
-  pub size : g .size ≤ n
+  pub four : 4 ≤ m * g .«block_size»
+  pub product : s * g .«block_size» ≤ n
+  pub size : g .«block_size» ≤ n
 
-run-part : (a : ℕ) (g : Region) (u : Use) (t : List Entry) (s n : ℕ) → Sound a g → RunIs (g .count) t s u → n ≡ g .bytes → PartIn g s (entry t s .count) n
+run-part : (a : ℕ) (g : Region) (u : Use) (t : List Entry) (s n : ℕ) → Sound a g → RunIs (g .«block_count») t s u → n ≡ g .length → PartIn g s (entry t s .count) n
 run-part a g u t s n o r q =
-    let i : g .blocks + s * g .size + entry t s .count * g .size ≤ g .bytes = run-inside a g s (entry t s .count) o (r .ends) in
-    let f : 1 * g .size ≤ entry t s .count * g .size = mul-le-mul-right (g .size) (r .one) in
+    let i : g .«blocks_offset» + s * g .«block_size» + entry t s .count * g .«block_size» ≤ g .length = run-inside a g s (entry t s .count) o (r .ends) in
+    let f : 1 * g .«block_size» ≤ entry t s .count * g .«block_size» = mul-le-mul-right (g .«block_size») (r .one) in
     record {
       low = omega (arith, r .below, o .few);
       few = omega (arith, r .ends, o .few);
@@ -101,14 +101,14 @@ run-part a g u t s n o r q =
       size = omega arith;
     }
 
-pub room-part : (e : End) (n s : ℕ) → whole e (e .tx) n ≡ true → starts Reserved (e .tx .count) (e .sent) s ≡ true → PartIn (e .tx) s (entry (e .sent) s .count) n
+pub room-part : (e : End) (n s : ℕ) → whole e (e .tx) n ≡ true → starts Reserved (e .tx .«block_count») (e .sent) s ≡ true → PartIn (e .tx) s (entry (e .sent) s .count) n
 room-part e n s h k =
     let w = whole-says e (e .tx) n h in
-    run-part (e .align) (e .tx) Reserved (e .sent) s n (open-says e (w .is-open) .tx) (run-of Reserved (e .tx .count) (e .sent) s k) (w .lent)
+    run-part (e .alignment) (e .tx) Reserved (e .sent) s n (open-says e (w .is-open) .tx) (run-of Reserved (e .tx .«block_count») (e .sent) s k) (w .lent)
 
-pub view-part : (e : End) (n s : ℕ) → whole e (e .rx) n ≡ true → startsData (e .rx .count) (e .rx .size) (e .held) s ≡ true →
-    PartIn (e .rx) s (entry (e .held) s .count) n × (entry (e .held) s .length + 4 ≤ entry (e .held) s .count * e .rx .size)
+pub view-part : (e : End) (n s : ℕ) → whole e (e .rx) n ≡ true → startsData (e .rx .«block_count») (e .rx .«block_size») (e .held) s ≡ true →
+    PartIn (e .rx) s (entry (e .held) s .count) n × (entry (e .held) s .length + 4 ≤ entry (e .held) s .count * e .rx .«block_size»)
 view-part e n s h k =
     let w = whole-says e (e .rx) n h in
-    let r = data-run (e .rx .count) (e .rx .size) (e .held) s k in
-    (run-part (e .align) (e .rx) _ (e .held) s n (open-says e (w .is-open) .rx) (r .0) (w .lent), r .1)
+    let r = data-run (e .rx .«block_count») (e .rx .«block_size») (e .held) s k in
+    (run-part (e .alignment) (e .rx) _ (e .held) s n (open-says e (w .is-open) .rx) (r .0) (w .lent), r .1)

@@ -25,24 +25,24 @@ use Rattle.checks.specs.Decisions.{SendAs}
 use Rattle.checks.specs.declared.Sending.the-variants.{Fits}
 use Rattle.checks.proofs.OpenSays.{is-whole}
 
-module _ (n : Numbers) (t : List ℕ) (ps : List Endpoint) (l s a k : ℕ) (w : Bool) (q : w ≡ (openNumbers (n .align) (n .tx) (n .rx) (n .write) (n .read) && eqb l (n .tx .bytes))) (bs : List Binding) where
+module _ (n : Numbers) (t : List ℕ) (ps : List Endpoint) (l s a k : ℕ) (w : Bool) (q : w ≡ (openNumbers (n .alignment) (n .tx) (n .rx) (n .write) (n .read) && eqb l (n .tx .length))) (bs : List Binding) where
   -- 6, 25
-  pub send-refused : (x : Refusal) → ((e : End) (o : Outcome) → check w 6 e (check (starts Reserved (n .tx .count) (tableOf t 0) s) 25 e o) ≡ refused e (numberOf x)) →
+  pub send-refused : (x : Refusal) → ((e : End) (o : Outcome) → check w 6 e (check (starts Reserved (n .tx .«block_count») (tableOf t 0) s) 25 e o) ≡ refused e (numberOf x)) →
       sendOf (joined n t ps bs) l s a k ≡ refused (joined n t ps bs) (numberOf x)
   unfolding sendOf isOpen
   send-refused x h = rw (← q) (h (joined n t ps bs) _)
 
-  module _ (h : w ≡ true) (p : starts Reserved (n .tx .count) (tableOf t 0) s ≡ true) where
+  module _ (h : w ≡ true) (p : starts Reserved (n .tx .«block_count») (tableOf t 0) s ≡ true) where
     pub send-15 : someEndpoint (boundAt a) ps ≡ false → sendOf (joined n t ps bs) l s a k ≡ refused (joined n t ps bs) 15
     unfolding sendOf isOpen
     send-15 r = rw (← q, h, p, r)
 
     module _ (r : someEndpoint (boundAt a) ps ≡ true) (x : Entry) (y : x ≡ entry (tableOf t 0) s) where
-      pub send-23 : x .count * n .tx .size < k + 4 → sendOf (joined n t ps bs) l s a k ≡ refused (joined n t ps bs) 23
+      pub send-23 : x .count * n .tx .«block_size» < k + 4 → sendOf (joined n t ps bs) l s a k ≡ refused (joined n t ps bs) 23
       unfolding sendOf isOpen
-      send-23 i = rw (← q, h, p, r, ← y, lt-leb (k + 4) (x .count * n .tx .size) i)
+      send-23 i = rw (← q, h, p, r, ← y, lt-leb (k + 4) (x .count * n .tx .«block_size») i)
 
-      pub send-fits : (b m : ℕ) → 1 ≤ n .tx .size → b ≡ a → m ≡ blocksFor (n .tx .size) k → k + 4 ≤ x .count * n .tx .size → SendAs (Fits b (x .count) m) (joined n t ps bs) l s a k
+      pub send-fits : (b m : ℕ) → 1 ≤ n .tx .«block_size» → b ≡ a → m ≡ blocksFor (n .tx .«block_size») k → k + 4 ≤ x .count * n .tx .«block_size» → SendAs (Fits b (x .count) m) (joined n t ps bs) l s a k
       unfolding sendOf isOpen
       send-fits b m z c d i =
-          (rw (← q, h, p, r, ← y, le-leb (k + 4) (x .count * n .tx .size) i, ← d), c, is-whole (joined n t ps bs) (n .tx) l w q h, p, rw y, rw d (blocks-one (n .tx .size) k z), rw d (blocks-least (n .tx .size) k (x .count) i z), i)
+          (rw (← q, h, p, r, ← y, le-leb (k + 4) (x .count * n .tx .«block_size») i, ← d), c, is-whole (joined n t ps bs) (n .tx) l w q h, p, rw y, rw d (blocks-one (n .tx .«block_size») k z), rw d (blocks-least (n .tx .«block_size») k (x .count) i z), i)

@@ -12,7 +12,7 @@ abbrev pub joined : Numbers → List ℕ → List Endpoint → List Binding → 
 joined n t ps bs =
     record {
       initiator = n .initiator;
-      align = n .align;
+      alignment = n .alignment;
       tx = n .tx;
       rx = n .rx;
       write = n .write;

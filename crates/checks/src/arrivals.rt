@@ -80,10 +80,12 @@ pub fn decode(message: &[u8]) -> Control
 fn are_lent(n: usize, g: Region) -> bool
     ensures { λ r. ⌜ r ≡ areLent n g ⌝ }
 {
-    let size = g.size as usize;
-    let count = g.count as usize;
-    let blocks = g.blocks as usize;
-    (4 <= size) & ((count <= MAX_BLOCKS) & ((blocks + count * size <= n) & (n <= MAX_BYTES)))
+    let block_size = g.block_size as usize;
+    let block_count = g.block_count as usize;
+    let blocks_offset = g.blocks_offset as usize;
+    (4 <= block_size)
+        & ((block_count <= MAX_BLOCKS)
+            & ((blocks_offset + block_count * block_size <= n) & (n <= MAX_BYTES)))
 }
 
 // Measures the message in receive block b: checks 6, 16, 17 and 18. Its size is read here, and nowhere again.
@@ -96,16 +98,16 @@ fn measure(rx: &[u8], g: Region, t: &[u8], b: u8) -> Measured
         return Measured::Refused(Refusal::WrongRegion);
     }
     let s = b as usize;
-    let count = g.count as usize;
-    let size = g.size as usize;
-    if count <= s {
+    let block_count = g.block_count as usize;
+    let block_size = g.block_size as usize;
+    if block_count <= s {
         return Measured::Refused(Refusal::BadBlock);
     }
-    let k = wire::read_u32(rx, g.blocks as usize + s * size);
-    if (count - s) * size < k as usize + 4 {
+    let k = wire::read_u32(rx, g.blocks_offset as usize + s * block_size);
+    if (block_count - s) * block_size < k as usize + 4 {
         return Measured::Refused(Refusal::PastTheLastBlock);
     }
-    let n = blocks::least_blocks(g.size, k);
+    let n = blocks::least_blocks(g.block_size, k);
     if tables::all_free(t, tables::HELD, s, n) {
         Measured::Fits {
             length: k,
@@ -125,7 +127,7 @@ pub fn data_sent(
     address: u8,
     block: u8,
 ) -> Measured
-    requires { ⌜ (openNumbers (n .align) (n .tx) (n .rx) (n .write) (n .read) ≡ true) × (length (now rx) ≡ n .rx .bytes) × (length (now t) ≡ 3136) ⌝ }
+    requires { ⌜ (openNumbers (n .alignment) (n .tx) (n .rx) (n .write) (n .read) ≡ true) × (length (now rx) ≡ n .rx .length) × (length (now t) ≡ 3136) ⌝ }
     ensures { λ r. ⌜ Delivers r n (now (t .entry)) endpoints address block (now (rx .entry)) ⌝ }
 {
     if LAST_ADDRESS < address {
@@ -140,15 +142,15 @@ pub fn data_sent(
 // Kind 1, the release of a data message: checks 16 and 25.
 pub fn data_released(n: Numbers, t: &[u8], block: u8) -> Run
     requires { ⌜ length (now t) ≡ 3136 ⌝ }
-    ensures { λ r. ⌜ RunAs r 16 (ltb block (n .tx .count)) (starts SentData (n .tx .count) (tableOf (now (t .entry)) 0) block) (entry (tableOf (now (t .entry)) 0) block) ⌝ }
+    ensures { λ r. ⌜ RunAs r 16 (ltb block (n .tx .«block_count»)) (starts SentData (n .tx .«block_count») (tableOf (now (t .entry)) 0) block) (entry (tableOf (now (t .entry)) 0) block) ⌝ }
 {
     crate::live(
-        (block as u16) < n.tx.count,
+        (block as u16) < n.tx.block_count,
         Refusal::BadBlock,
         t,
         tables::SENT,
         Use::SentData,
-        n.tx.count,
+        n.tx.block_count,
         block as u32,
     )
 }
@@ -162,12 +164,12 @@ pub fn binding_released(n: Numbers, t: &[u8], address: u8, block: u8) -> Run
         return Run::Refused(Refusal::BadAddress);
     }
     let run = crate::live(
-        (block as u16) < n.tx.count,
+        (block as u16) < n.tx.block_count,
         Refusal::BadBlock,
         t,
         tables::SENT,
         Use::SentBinding,
-        n.tx.count,
+        n.tx.block_count,
         block as u32,
     );
     match run {
@@ -232,7 +234,7 @@ pub fn binding_sent(
     address: u8,
     block: u8,
 ) -> Named
-    requires { ⌜ (openNumbers (n .align) (n .tx) (n .rx) (n .write) (n .read) ≡ true) × (length (now rx) ≡ n .rx .bytes) × (length (now t) ≡ 3136) ⌝ }
+    requires { ⌜ (openNumbers (n .alignment) (n .tx) (n .rx) (n .write) (n .read) ≡ true) × (length (now rx) ≡ n .rx .length) × (length (now t) ≡ 3136) ⌝ }
     ensures { λ r. ⌜ NamedAs r (joined n (now (t .entry)) endpoints bindings) address block (now (rx .entry)) ⌝ }
 {
     if n.initiator {
@@ -244,7 +246,7 @@ pub fn binding_sent(
     match measure(rx, n.rx, t, block) {
         Measured::Refused(x) => nameless(x),
         Measured::Fits { length, count } => {
-            let p = n.rx.blocks as usize + block as usize * n.rx.size as usize + 4;
+            let p = n.rx.blocks_offset as usize + block as usize * n.rx.block_size as usize + 4;
             let most = wire::least(length as usize, NAME_AND_ZERO);
             match blocks::framing::name_length(rx, p, most) {
                 Found::Nowhere => nameless(Refusal::BadName),

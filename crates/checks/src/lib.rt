@@ -59,39 +59,40 @@ pub enum Sending {
 fn is_sound(a: u16, g: Region) -> bool
     ensures { λ r. ⌜ r ≡ all (soundRegion a g) ⌝ }
 {
-    let align = a as usize;
-    let base = g.base as usize;
-    let ring = g.ring as usize;
-    let blocks = g.blocks as usize;
-    let bytes = g.bytes as usize;
-    let size = g.size as usize;
-    let count = g.count as usize;
-    (32 <= ring)
-        & ((ring % 4 == 0)
-            & ((base + (align + 4) + ring <= blocks)
-                & ((blocks + count * size <= bytes)
-                    & ((bytes <= MAX_BYTES)
-                        & ((1 <= count) & ((count <= MAX_BLOCKS) & (4 <= size)))))))
+    let alignment = a as usize;
+    let ring_offset = g.ring_offset as usize;
+    let data_length = g.data_length as usize;
+    let blocks_offset = g.blocks_offset as usize;
+    let length = g.length as usize;
+    let block_size = g.block_size as usize;
+    let block_count = g.block_count as usize;
+    (32 <= data_length)
+        & ((data_length % 4 == 0)
+            & ((ring_offset + (alignment + 4) + data_length <= blocks_offset)
+                & ((blocks_offset + block_count * block_size <= length)
+                    & ((length <= MAX_BYTES)
+                        & ((1 <= block_count)
+                            & ((block_count <= MAX_BLOCKS) & (4 <= block_size)))))))
 }
 
 // Whether the numbers are those of an open end.
 pub fn is_open(n: Numbers) -> bool
-    ensures { λ r. ⌜ r ≡ openNumbers (n .align) (n .tx) (n .rx) (n .write) (n .read) ⌝ }
+    ensures { λ r. ⌜ r ≡ openNumbers (n .alignment) (n .tx) (n .rx) (n .write) (n .read) ⌝ }
 {
-    let a = n.align;
+    let a = n.alignment;
     (4 <= a)
         & ((a <= MAX_ALIGNMENT)
             & ((a % 4 == 0)
-                & (icmsg::in_rule(n.tx.ring, n.write)
-                    & (icmsg::in_rule(n.rx.ring, n.read)
+                & (icmsg::in_rule(n.tx.data_length, n.write)
+                    & (icmsg::in_rule(n.rx.data_length, n.read)
                         & (is_sound(a, n.tx) & is_sound(a, n.rx))))))
 }
 
 // Whether they are, and the region g is lent whole.
 pub fn is_whole(n: Numbers, g: Region, lent: usize) -> bool
-    ensures { λ r. ⌜ r ≡ (openNumbers (n .align) (n .tx) (n .rx) (n .write) (n .read) && eqb lent (g .bytes)) ⌝ }
+    ensures { λ r. ⌜ r ≡ (openNumbers (n .alignment) (n .tx) (n .rx) (n .write) (n .read) && eqb lent (g .length)) ⌝ }
 {
-    is_open(n) & (lent == g.bytes as usize)
+    is_open(n) & (lent == g.length as usize)
 }
 
 // ---- runs
@@ -103,16 +104,16 @@ pub fn live(
     t: &[u8],
     base: usize,
     u: Use,
-    count: u16,
+    block_count: u16,
     s: u32,
 ) -> Run
     requires { ⌜ (base ≤ 1568) × (length (now t) ≡ 3136) ⌝ }
-    ensures { λ r. ⌜ RunAs r (numberOf otherwise) passed (starts u count (tableOf (now (t .entry)) base) s) (entry (tableOf (now (t .entry)) base) s) ⌝ }
+    ensures { λ r. ⌜ RunAs r (numberOf otherwise) passed (starts u «block_count» (tableOf (now (t .entry)) base) s) (entry (tableOf (now (t .entry)) base) s) ⌝ }
 {
     if !passed {
         return Run::Refused(otherwise);
     }
-    match tables::run_at(t, base, u, count, s) {
+    match tables::run_at(t, base, u, block_count, s) {
         RunAt::Nothing => Run::Refused(Refusal::NoMessage),
         RunAt::Live(x) => Run::Live(x),
     }
@@ -121,12 +122,12 @@ pub fn live(
 // The received data that starts at s, behind such a check.
 pub fn received(passed: bool, t: &[u8], g: Region, s: u32) -> Run
     requires { ⌜ length (now t) ≡ 3136 ⌝ }
-    ensures { λ r. ⌜ RunAs r 6 passed (startsData (g .count) (g .size) (tableOf (now (t .entry)) 1568) s) (entry (tableOf (now (t .entry)) 1568) s) ⌝ }
+    ensures { λ r. ⌜ RunAs r 6 passed (startsData (g .«block_count») (g .«block_size») (tableOf (now (t .entry)) 1568) s) (entry (tableOf (now (t .entry)) 1568) s) ⌝ }
 {
     if !passed {
         return Run::Refused(Refusal::WrongRegion);
     }
-    match tables::data_at(t, tables::HELD, g.count, g.size, s) {
+    match tables::data_at(t, tables::HELD, g.block_count, g.block_size, s) {
         RunAt::Nothing => Run::Refused(Refusal::NoMessage),
         RunAt::Live(x) => Run::Live(x),
     }
@@ -136,14 +137,14 @@ pub fn received(passed: bool, t: &[u8], g: Region, s: u32) -> Run
 
 // The lowest blocks of the region g that hold k bytes: checks 23 and 24.
 pub fn fit(g: Region, t: &[u8], k: u32) -> Space
-    requires { ⌜ (1 ≤ g .size) × (g .count ≤ 256) × (length (now t) ≡ 3136) ⌝ }
+    requires { ⌜ (1 ≤ g .«block_size») × (g .«block_count» ≤ 256) × (length (now t) ≡ 3136) ⌝ }
     ensures { λ r. ⌜ FitAs r g (tableOf (now (t .entry)) 0) k ⌝ }
 {
-    let count = blocks::least_blocks(g.size, k);
-    if (g.count as usize) < count {
+    let count = blocks::least_blocks(g.block_size, k);
+    if (g.block_count as usize) < count {
         return Space::Refused(Refusal::CannotFit);
     }
-    match tables::lowest_run(t, tables::SENT, g.count, count) {
+    match tables::lowest_run(t, tables::SENT, g.block_count, count) {
         Found::Nowhere => Space::Refused(Refusal::NoRoom),
         Found::At(start) => Space::At { start, count },
     }
@@ -180,7 +181,7 @@ pub fn send(
         t,
         tables::SENT,
         Use::Reserved,
-        n.tx.count,
+        n.tx.block_count,
         s,
     );
     match run {
@@ -189,10 +190,10 @@ pub fn send(
             Addressee::Nobody => Sending::Refused(Refusal::NotBound),
             Addressee::Bound(to) => {
                 let held = x.count as usize;
-                if held * (n.tx.size as usize) < k as usize + 4 {
+                if held * (n.tx.block_size as usize) < k as usize + 4 {
                     return Sending::Refused(Refusal::CannotFit);
                 }
-                let count = blocks::least_blocks(n.tx.size, k);
+                let count = blocks::least_blocks(n.tx.block_size, k);
                 Sending::Fits {
                     address: to,
                     held,

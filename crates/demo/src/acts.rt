@@ -17,13 +17,13 @@ const ALIGNMENT: u32 = 32;
 const TO_PUMP: Bounds = Bounds {
     begin: 0x20070000,
     end: 0x20070800,
-    blocks: 16,
+    block_count: 16,
 };
 
 const TO_PANEL: Bounds = Bounds {
     begin: 0x20060000,
     end: 0x20060800,
-    blocks: 32,
+    block_count: 32,
 };
 
 // A line of plain text.
@@ -50,12 +50,12 @@ pub fn legend() {
 pub fn open() -> Ends {
     heading(b"1. Opening and start");
     let from = calls::open(Opening {
-        align: ALIGNMENT,
+        alignment: ALIGNMENT,
         tx: TO_PUMP,
         rx: TO_PANEL,
     });
     let to = calls::open(Opening {
-        align: ALIGNMENT,
+        alignment: ALIGNMENT,
         tx: TO_PANEL,
         rx: TO_PUMP,
     });
@@ -107,7 +107,7 @@ pub fn reply(ends: Ends) -> Ends {
 }
 
 fn put_header(region: &mut Memory, g: Region, block: u8, k: u32) {
-    let at = g.blocks as usize + block as usize * g.size as usize;
+    let at = g.blocks_offset as usize + block as usize * g.block_size as usize;
     if at + 4 <= region.len() {
         wire::write_u32(region, at, k);
     }

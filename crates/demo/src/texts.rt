@@ -66,8 +66,8 @@ fn role(line: Line, initiator: bool) -> Line {
 
 // The number of a region's blocks, and their size.
 fn region(line: Line, g: Region) -> Line {
-    let line = line.number(g.count as u32).text(b" blocks of ");
-    line.number(g.size).text(b" bytes")
+    let line = line.number(g.block_count as u32).text(b" blocks of ");
+    line.number(g.block_size).text(b" bytes")
 }
 
 // What an opening made of an end's numbers.
@@ -128,10 +128,10 @@ pub fn endpoint(line: Line, p: Endpoint) -> Line {
 // The blocks that an end sends in, and those that it receives in.
 pub fn sent_blocks(line: Line, end: End) -> Line {
     let line = line.end_name(end.numbers.initiator);
-    line.table(&end.tables, tables::SENT, end.numbers.tx.count)
+    line.table(&end.tables, tables::SENT, end.numbers.tx.block_count)
 }
 
 pub fn held_blocks(line: Line, end: End) -> Line {
     let line = line.end_name(end.numbers.initiator);
-    line.table(&end.tables, tables::HELD, end.numbers.rx.count)
+    line.table(&end.tables, tables::HELD, end.numbers.rx.block_count)
 }

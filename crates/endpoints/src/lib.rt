@@ -269,15 +269,15 @@ impl EndpointChange {
 
 // ---- bindings
 
-// Whether a binding passes the test, with this block count, this address and this padded name.
-fn binding_passes(b: Binding, test: BindingTest, count: u16, address: u8, name: &[u8]) -> bool
-    ensures { λ r. ⌜ r ≡ bindingTest test count address (now (name .entry)) b ⌝ }
+// Whether a binding passes the test, with this block block_count, this address and this padded name.
+fn binding_passes(b: Binding, test: BindingTest, block_count: u16, address: u8, name: &[u8]) -> bool
+    ensures { λ r. ⌜ r ≡ bindingTest test «block_count» address (now (name .entry)) b ⌝ }
 {
     let own = b.name;
     match test {
         BindingTest::Free => !b.stored,
         BindingTest::Holds => {
-            b.stored & (wire::same(&own, name) & blocks::lies(count, b.start as u32, b.count))
+            b.stored & (wire::same(&own, name) & blocks::lies(block_count, b.start as u32, b.count))
         }
         BindingTest::Clashes => b.stored & ((b.address == address) | wire::same(&own, name)),
     }
@@ -287,16 +287,16 @@ fn binding_passes(b: Binding, test: BindingTest, count: u16, address: u8, name: 
 pub fn find_binding(
     bindings: [Binding; PLACES],
     test: BindingTest,
-    count: u16,
+    block_count: u16,
     address: u8,
     name: &[u8],
 ) -> Found
-    ensures { λ r. ⌜ (searchOf r ≡ bindingAt (bindingTest test count address (now (name .entry))) bindings) × FoundBelow r 1 8 ⌝ }
+    ensures { λ r. ⌜ (searchOf r ≡ bindingAt (bindingTest test «block_count» address (now (name .entry))) bindings) × FoundBelow r 1 8 ⌝ }
 {
     let mut i = 0;
     while i < PLACES {
         let b = bindings[i];
-        if binding_passes(b, test, count, address, name) {
+        if binding_passes(b, test, block_count, address, name) {
             return Found::At(i);
         }
         i += 1;
@@ -308,13 +308,13 @@ pub fn find_binding(
 pub fn has_binding(
     bindings: [Binding; PLACES],
     test: BindingTest,
-    count: u16,
+    block_count: u16,
     address: u8,
     name: &[u8],
 ) -> bool
-    ensures { λ r. ⌜ r ≡ someBinding (bindingTest test count address (now (name .entry))) bindings ⌝ }
+    ensures { λ r. ⌜ r ≡ someBinding (bindingTest test «block_count» address (now (name .entry))) bindings ⌝ }
 {
-    match find_binding(bindings, test, count, address, name) {
+    match find_binding(bindings, test, block_count, address, name) {
         Found::Nowhere => false,
         Found::At(_) => true,
     }

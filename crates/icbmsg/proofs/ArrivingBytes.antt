@@ -24,12 +24,12 @@ answer-pick false t u r = refl
 
 -- kind 0
 abbrev pub received : End → ℕ → ℕ → ℕ → Outcome
-received e a b k = accepted (withHeld e (taken (e .held) ReceivedData b (blocksFor (e .rx .size) k) a k)) (delivery a b k)
+received e a b k = accepted (withHeld e (taken (e .held) ReceivedData b (blocksFor (e .rx .«block_size») k) a k)) (delivery a b k)
 
 pub data-flat : (e : End) (a b : ℕ) (r : List ℕ) → answer (dataRule e a b) r ≡
     check (leb a 0xFD) 14 e
     (check (someEndpoint (boundAt a) (e .endpoints)) 15 e
-    (check (ltb b (e .rx .count)) 16 e
+    (check (ltb b (e .rx .«block_count»)) 16 e
     (check (fitsArea (e .rx) b (sizeIn e b r)) 17 e
     (check (areFree (e .held) (e .rx) b (sizeIn e b r)) 18 e
     (received e a b (sizeIn e b r))))))
@@ -60,9 +60,9 @@ name-flat e (suc n) p f r =
 pub bound-flat : (e : End) (a b : ℕ) (r : List ℕ) → answer (boundRule e a b) r ≡
     check (not (e .initiator)) 19 e
     (check (leb a 0xFD) 14 e
-    (check (ltb b (e .rx .count)) 16 e
+    (check (ltb b (e .rx .«block_count»)) 16 e
     (check (fitsArea (e .rx) b (sizeIn e b r)) 17 e
     (check (areFree (e .held) (e .rx) b (sizeIn e b r)) 18 e
-    (withName e (boundNamed e a b (blocksFor (e .rx .size) (sizeIn e b r))) (nameIn (min (sizeIn e b r) 32) (contentAt e b) r))))))
+    (withName e (boundNamed e a b (blocksFor (e .rx .«block_size») (sizeIn e b r))) (nameIn (min (sizeIn e b r) 32) (contentAt e b) r))))))
 unfolding boundRule boundSized
 bound-flat e a b r = simp (answer-guard, name-flat)

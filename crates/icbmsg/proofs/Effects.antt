@@ -60,9 +60,9 @@ pub data SentChange (c : ℕ) (good : Entry → Bool) (t : List Entry) : RunChan
 -- the received table with the stored bindings
 pub data HeldChange (g : Region) (t : List Entry) (bs : List Binding) : RunChange → List Entry → List Binding → Type 0 where
   as-was : HeldChange g t bs no-change t bs
-  receives : (s n a k : ℕ) → leb (k + 4) (n * g .size) ≡ true → allFree t s n ≡ true → 1 ≤ n → s + n ≤ g .count → HeldChange g t bs (takes receive s n) (taken t ReceivedData s n a k) bs
+  receives : (s n a k : ℕ) → leb (k + 4) (n * g .«block_size») ≡ true → allFree t s n ≡ true → 1 ≤ n → s + n ≤ g .«block_count» → HeldChange g t bs (takes receive s n) (taken t ReceivedData s n a k) bs
   finishes : (s : ℕ) → entry t s .usage ≡ ReceivedData → HeldChange g t bs (frees receive s) (freed t s (entry t s .count)) bs
-  stores : (s n a j : ℕ) (name : List ℕ) → allFree t s n ≡ true → 1 ≤ n → s + n ≤ g .count → j < 8 → bindingOf bs j .stored ≡ false →
+  stores : (s n a j : ℕ) (name : List ℕ) → allFree t s n ≡ true → 1 ≤ n → s + n ≤ g .«block_count» → j < 8 → bindingOf bs j .stored ≡ false →
       HeldChange g t bs (takes receive s n) (taken t StoredBinding s n a 0) (set bs j (record { stored = true; address = a; start = s; count = n; name = name }))
   forgets : (j : ℕ) → j < 8 → bindingOf bs j .stored ≡ true →
       HeldChange g t bs (frees receive (bindingOf bs j .start)) (freed t (bindingOf bs j .start) (bindingOf bs j .count)) (set bs j noBinding)
@@ -70,9 +70,9 @@ pub data HeldChange (g : Region) (t : List Entry) (bs : List Binding) : RunChang
 -- an end
 pub data EndChange (e : End) : RunChange → End → Type 0 where
   stays : EndChange e no-change e
-  writes : (w : ℕ) → inRule (e .tx .ring) w ≡ true → EndChange e no-change (withWrite e w)
-  reads : (r : ℕ) → inRule (e .rx .ring) r ≡ true → EndChange e no-change (withRead e r)
-  sends : {d : RunChange} {t : List Entry} (ps : List Endpoint) → SentChange (e .tx .count) (sentRun (e .tx)) (e .sent) d t → length ps ≡ length (e .endpoints) →
+  writes : (w : ℕ) → inRule (e .tx .«data_length») w ≡ true → EndChange e no-change (withWrite e w)
+  reads : (r : ℕ) → inRule (e .rx .«data_length») r ≡ true → EndChange e no-change (withRead e r)
+  sends : {d : RunChange} {t : List Entry} (ps : List Endpoint) → SentChange (e .tx .«block_count») (sentRun (e .tx)) (e .sent) d t → length ps ≡ length (e .endpoints) →
       EndChange e d (changed e (e .write) (e .read) t (e .held) ps (e .bindings))
   keeps : {d : RunChange} {t : List Entry} {bs : List Binding} (ps : List Endpoint) → HeldChange (e .rx) (e .held) (e .bindings) d t bs → length ps ≡ length (e .endpoints) →
       EndChange e d (changed e (e .write) (e .read) (e .sent) t ps bs)
@@ -114,11 +114,11 @@ sound e h = every (soundEnd e) h
 -- ---- runs
 
 -- n blocks at s end inside the region's blocks
-pub run-ends : (g : Region) (s n : ℕ) → s + n ≤ g .count → blockAt g s + n * g .size ≤ g .blocks + g .count * g .size
-run-ends g s n h = omega (arith, mul-le-mul-right (g .size) h, add-mul s n (g .size))
+pub run-ends : (g : Region) (s n : ℕ) → s + n ≤ g .«block_count» → blockAt g s + n * g .«block_size» ≤ g .«blocks_offset» + g .«block_count» * g .«block_size»
+run-ends g s n h = omega (arith, mul-le-mul-right (g .«block_size») h, add-mul s n (g .«block_size»))
 
 -- x bytes behind the header of a live run
-in-message : (e : End) (g : Region) (t : List Entry) (s x : ℕ) → Live t s → s + entry t s .count ≤ g .count → x + 4 ≤ entry t s .count * g .size →
+in-message : (e : End) (g : Region) (t : List Entry) (s x : ℕ) → Live t s → s + entry t s .count ≤ g .«block_count» → x + 4 ≤ entry t s .count * g .«block_size» →
     InMessage g t s (placed e (blockAt g s + 4) x)
 in-message e g t s x l h k =
     let m = run-ends g s (entry t s .count) h in
@@ -127,11 +127,11 @@ in-message e g t s x l h k =
 -- ---- each rule
 
 pub whole-open : (e : End) (g : Region) (n : ℕ) → whole e g n ≡ true → isOpen e ≡ true
-whole-open e g n h = both (isOpen e) (eqb n (g .bytes)) h .0
+whole-open e g n h = both (isOpen e) (eqb n (g .length)) h .0
 
 -- the end's test says that an own index is in rule, and the other tests of a ring
 write-effect : (e : End) (w : Bool) (ws : List (ℕ × ℕ)) (a : Answer) → (w ≡ true → isOpen e ≡ true) → ((n : ℕ) → a ≡ ringNo n → 1 ≤ n) →
-    ((k i : ℕ) → a ≡ ringYes k i → inRule (e .tx .ring) i ≡ true) → Effect (λ _. no-change) e length-part (pick w (pushOutcome e ws a) (ringRefused e 6))
+    ((k i : ℕ) → a ≡ ringYes k i → inRule (e .tx .«data_length») i ≡ true) → Effect (λ _. no-change) e length-part (pick w (pushOutcome e ws a) (ringRefused e 6))
 write-effect e true ws (ringNo n) o p q = refuses n (le-leb 1 n (p n refl))
 write-effect e true ws (ringYes k i) o p q = accepts refl (o refl) (refl, refl) (writes i (q k i refl))
 write-effect e false ws a o p q = refuses _ refl
@@ -139,7 +139,7 @@ write-effect e false ws a o p q = refuses _ refl
 push-effect : (e : End) (tx c : List ℕ) → Effect (λ _. no-change) e length-part (pushOf e tx c)
 unfolding pushOf
 push-effect e tx c =
-    let g : Ring = ringOf (e .align) (e .tx) in
+    let g : Ring = ringOf (e .alignment) (e .tx) in
     let o : RingOutcome = ringPush tx g (e .write) c in
     write-effect e (whole e (e .tx) (length tx)) (o .region) (o .answer) (whole-open e (e .tx) (length tx))
     (λ n h. refusals .push tx g (e .write) c n h .0) (λ k i h. indexes-in-rule .push tx g (e .write) c k i h)
@@ -147,93 +147,93 @@ push-effect e tx c =
 start-effect : (e : End) (n : ℕ) → Effect (λ _. no-change) e length-part (startOf e n)
 unfolding startOf
 start-effect e n =
-    let g : Ring = ringOf (e .align) (e .tx) in
+    let g : Ring = ringOf (e .alignment) (e .tx) in
     let o : RingOutcome = ringStart n g in
     write-effect e (whole e (e .tx) n) (o .region) (o .answer) (whole-open e (e .tx) n)
     (λ m h. refusals .start n g m h .0) (λ k i h. indexes-in-rule .start n g k i h)
 
 read-effect : (e : End) (w : Bool) (ws bs : List (ℕ × ℕ)) (a : Answer) → (w ≡ true → isOpen e ≡ true) → ((n : ℕ) → a ≡ ringNo n → 1 ≤ n) →
-    ((k i : ℕ) → a ≡ ringYes k i → inRule (e .rx .ring) i ≡ true) → Effect (λ _. no-change) e length-part (pick w (pullOutcome e ws bs a) (ringRefused e 6))
+    ((k i : ℕ) → a ≡ ringYes k i → inRule (e .rx .«data_length») i ≡ true) → Effect (λ _. no-change) e length-part (pick w (pullOutcome e ws bs a) (ringRefused e 6))
 read-effect e true ws bs (ringNo n) o p q = refuses n (le-leb 1 n (p n refl))
 read-effect e true ws bs (ringYes k i) o p q = accepts refl (o refl) (refl, refl) (reads i (q k i refl))
 read-effect e false ws bs a o p q = refuses _ refl
 
 pull-effect : (e : End) (r : List ℕ) (b : ℕ) → Effect (λ _. no-change) e length-part (answer (pullRule e (length r) b) r)
 pull-effect e r b =
-    let g : Ring = ringOf (e .align) (e .rx) in
+    let g : Ring = ringOf (e .alignment) (e .rx) in
     let o : RingOutcome = answer (ringPull (length r) g (e .read) b) r in
     rw (pull-answer e (length r) b r)
     (read-effect e (whole e (e .rx) (length r)) (o .region) (o .buffer) (o .answer) (whole-open e (e .rx) (length r))
     (λ n h. refusals .pull (length r) g (e .read) b r n h .0) (λ k i h. indexes-in-rule .pull (length r) g (e .read) b r k i h))
 
-pub size-pos : (e : End) → isOpen e ≡ true → (0 < e .tx .size) × (0 < e .rx .size)
+pub size-pos : (e : End) → isOpen e ≡ true → (0 < e .tx .«block_size») × (0 < e .rx .«block_size»)
 size-pos e o = let z = sound e o in omega (arith, leb-true)
 
 -- a run of as many blocks as K needs
-take-run : (e : End) (u : Use) (a k m s : ℕ) → isOpen e ≡ true → blockKind u ≡ leading → sentRun (e .tx) (runEntry u (blocksFor (e .tx .size) k) a m) ≡ true →
-    freeRun (e .tx .count) (e .sent) (blocksFor (e .tx .size) k) ≡ foundAt s → SentChange (e .tx .count) (sentRun (e .tx)) (e .sent) (takes transmit s (blocksFor (e .tx .size) k)) (taken (e .sent) u s (blocksFor (e .tx .size) k) a m)
+take-run : (e : End) (u : Use) (a k m s : ℕ) → isOpen e ≡ true → blockKind u ≡ leading → sentRun (e .tx) (runEntry u (blocksFor (e .tx .«block_size») k) a m) ≡ true →
+    freeRun (e .tx .«block_count») (e .sent) (blocksFor (e .tx .«block_size») k) ≡ foundAt s → SentChange (e .tx .«block_count») (sentRun (e .tx)) (e .sent) (takes transmit s (blocksFor (e .tx .«block_size») k)) (taken (e .sent) u s (blocksFor (e .tx .«block_size») k) a m)
 unfolding freeRun
 take-run e u a k m s o su g q =
-    let w = lowest-at (e .tx .count) (e .sent) 0 (blocksFor (e .tx .size) k) (e .tx .count) s q in
-    run-taken u s (blocksFor (e .tx .size) k) a m su g (w .free-there) (blocks-one (e .tx .size) k (size-pos e o .0)) (w .room)
+    let w = lowest-at (e .tx .«block_count») (e .sent) 0 (blocksFor (e .tx .«block_size») k) (e .tx .«block_count») s q in
+    run-taken u s (blocksFor (e .tx .«block_size») k) a m su g (w .free-there) (blocks-one (e .tx .«block_size») k (size-pos e o .0)) (w .room)
 
 reserve-effect : (e : End) (k : ℕ) → Effect reserveChange e no-part (reserveOf e k)
 unfolding reserveOf
 reserve-effect e k =
     checked (isOpen e) _ (refl, refl) λ o.
-    checked (leb (blocksFor (e .tx .size) k) (e .tx .count)) _ (refl, refl) λ _.
-    found (freeRun (e .tx .count) (e .sent) (blocksFor (e .tx .size) k)) _ (refl, refl) λ s q.
+    checked (leb (blocksFor (e .tx .«block_size») k) (e .tx .«block_count»)) _ (refl, refl) λ _.
+    found (freeRun (e .tx .«block_count») (e .sent) (blocksFor (e .tx .«block_size») k)) _ (refl, refl) λ s q.
     accepts refl o (refl, refl) (sends (e .endpoints) (take-run e Reserved 0 k 0 s o refl refl q) refl)
 
 room-effect : (e : End) (n s : ℕ) → Effect (λ _. no-change) e (message-part transmit s) (roomOf e n s)
 unfolding roomOf
 room-effect e n s =
     checked (whole e (e .tx) n) _ (refl, refl) λ w.
-    checked (starts Reserved (e .tx .count) (e .sent) s) _ (refl, refl) λ h.
+    checked (starts Reserved (e .tx .«block_count») (e .sent) s) _ (refl, refl) λ h.
     let o = whole-open e (e .tx) n w in
     let z = sound e o in
-    let r = run-of Reserved (e .tx .count) (e .sent) s h in
-    let x : ℕ = entry (e .sent) s .count * e .tx .size in
-    let l : 4 ≤ x = omega (arith, mul-le-mul (r .one) (leb-true 4 (e .tx .size) (z .1 .1 .1 .1 .1 .1 .1 .1 .1 .1 .1 .1 .0))) in
+    let r = run-of Reserved (e .tx .«block_count») (e .sent) s h in
+    let x : ℕ = entry (e .sent) s .count * e .tx .«block_size» in
+    let l : 4 ≤ x = omega (arith, mul-le-mul (r .one) (leb-true 4 (e .tx .«block_size») (z .1 .1 .1 .1 .1 .1 .1 .1 .1 .1 .1 .1 .0))) in
     accepts refl o (in-message e (e .tx) (e .sent) s (x - 4) (live r refl) (r .ends) (omega arith)) stays
 
-send-effect : (e : End) (n s a k : ℕ) → Effect (λ _. trims transmit s (blocksFor (e .tx .size) k)) e no-part (sendOf e n s a k)
+send-effect : (e : End) (n s a k : ℕ) → Effect (λ _. trims transmit s (blocksFor (e .tx .«block_size») k)) e no-part (sendOf e n s a k)
 unfolding sendOf
 send-effect e n s a k =
     checked (whole e (e .tx) n) _ (refl, refl) λ w.
-    checked (starts Reserved (e .tx .count) (e .sent) s) _ (refl, refl) λ h.
+    checked (starts Reserved (e .tx .«block_count») (e .sent) s) _ (refl, refl) λ h.
     checked (someEndpoint (boundAt a) (e .endpoints)) _ (refl, refl) λ _.
-    checked (leb (k + 4) (entry (e .sent) s .count * e .tx .size)) _ (refl, refl) λ f.
+    checked (leb (k + 4) (entry (e .sent) s .count * e .tx .«block_size»)) _ (refl, refl) λ f.
     let o = whole-open e (e .tx) n w in
-    let r = run-of Reserved (e .tx .count) (e .sent) s h in
+    let r = run-of Reserved (e .tx .«block_count») (e .sent) s h in
     let p = size-pos e o .0 in
     accepts refl o (refl, refl)
     (sends (e .endpoints)
-    (run-trimmed SentData s (blocksFor (e .tx .size) k) a k (live r refl) refl (le-leb (k + 4) (blocksFor (e .tx .size) k * e .tx .size) (blocks-hold (e .tx .size) k p)) (blocks-one (e .tx .size) k p)
-    (blocks-least (e .tx .size) k (entry (e .sent) s .count) (leb-true (k + 4) (entry (e .sent) s .count * e .tx .size) f) p))
+    (run-trimmed SentData s (blocksFor (e .tx .«block_size») k) a k (live r refl) refl (le-leb (k + 4) (blocksFor (e .tx .«block_size») k * e .tx .«block_size») (blocks-hold (e .tx .«block_size») k p)) (blocks-one (e .tx .«block_size») k p)
+    (blocks-least (e .tx .«block_size») k (entry (e .sent) s .count) (leb-true (k + 4) (entry (e .sent) s .count * e .tx .«block_size») f) p))
     refl)
 
 drop-effect : (e : End) (s : ℕ) → Effect (λ _. frees transmit s) e no-part (dropOf e s)
 unfolding dropOf
 drop-effect e s =
     checked (isOpen e) _ (refl, refl) λ o.
-    checked (starts Reserved (e .tx .count) (e .sent) s) _ (refl, refl) λ h.
-    accepts refl o (refl, refl) (sends (e .endpoints) (run-freed s (live (run-of Reserved (e .tx .count) (e .sent) s h) refl)) refl)
+    checked (starts Reserved (e .tx .«block_count») (e .sent) s) _ (refl, refl) λ h.
+    accepts refl o (refl, refl) (sends (e .endpoints) (run-freed s (live (run-of Reserved (e .tx .«block_count») (e .sent) s h) refl)) refl)
 
 view-effect : (e : End) (n s : ℕ) → Effect (λ _. no-change) e (message-part receive s) (viewOf e n s)
 unfolding viewOf
 view-effect e n s =
     checked (whole e (e .rx) n) _ (refl, refl) λ w.
-    checked (startsData (e .rx .count) (e .rx .size) (e .held) s) _ (refl, refl) λ h.
-    let d = data-run (e .rx .count) (e .rx .size) (e .held) s h in
+    checked (startsData (e .rx .«block_count») (e .rx .«block_size») (e .held) s) _ (refl, refl) λ h.
+    let d = data-run (e .rx .«block_count») (e .rx .«block_size») (e .held) s h in
     accepts refl (whole-open e (e .rx) n w) (in-message e (e .rx) (e .held) s (entry (e .held) s .length) (live (d .0) refl) (d .0 .ends) (d .1)) stays
 
 done-effect : (e : End) (s : ℕ) → Effect (λ _. frees receive s) e no-part (doneOf e s)
 unfolding doneOf
 done-effect e s =
     checked (isOpen e) _ (refl, refl) λ o.
-    checked (startsData (e .rx .count) (e .rx .size) (e .held) s) _ (refl, refl) λ h.
-    accepts refl o (refl, refl) (keeps (e .endpoints) (finishes s (data-run (e .rx .count) (e .rx .size) (e .held) s h .0 .use-is-it)) refl)
+    checked (startsData (e .rx .«block_count») (e .rx .«block_size») (e .held) s) _ (refl, refl) λ h.
+    accepts refl o (refl, refl) (keeps (e .endpoints) (finishes s (data-run (e .rx .«block_count») (e .rx .«block_size») (e .held) s h .0 .use-is-it)) refl)
 
 -- a question on a part hands out none
 asked : {e : End} {p : Part} {o : Outcome} → refusedGiven p ≡ nothing → Effect (λ _. no-change) e p o → Effect (λ _. no-change) e no-part (withoutPlace o)
@@ -241,26 +241,26 @@ asked q (refuses n h) = rw q (refuses n h)
 asked q (accepts z o i m) = accepts z o (refl, refl) m
 
 -- register
-initiates-effect : (e : End) (n : List ℕ) (i : ℕ) → isOpen e ≡ true → Effect (registerChange (blocksFor (e .tx .size) (length n + 1))) e no-part (initiates e n i)
+initiates-effect : (e : End) (n : List ℕ) (i : ℕ) → isOpen e ≡ true → Effect (registerChange (blocksFor (e .tx .«block_size») (length n + 1))) e no-part (initiates e n i)
 unfolding initiates
 initiates-effect e n i o =
     let k : ℕ = length n + 1 in
-    checked (leb (blocksFor (e .tx .size) k) (e .tx .count)) _ (refl, refl) λ _.
-    found (freeRun (e .tx .count) (e .sent) (blocksFor (e .tx .size) k)) _ (refl, refl) λ s q.
+    checked (leb (blocksFor (e .tx .«block_size») k) (e .tx .«block_count»)) _ (refl, refl) λ _.
+    found (freeRun (e .tx .«block_count») (e .sent) (blocksFor (e .tx .«block_size») k)) _ (refl, refl) λ s q.
     accepts refl o (refl, refl)
     (sends (become e i _ (unusedFrom 8 0 (e .endpoints)) n)
-    (take-run e SentBinding (unusedFrom 8 0 (e .endpoints)) k k s o refl (le-leb (k + 4) (blocksFor (e .tx .size) k * e .tx .size) (blocks-hold (e .tx .size) k (size-pos e o .0))) q)
+    (take-run e SentBinding (unusedFrom 8 0 (e .endpoints)) k k s o refl (le-leb (k + 4) (blocksFor (e .tx .«block_size») k * e .tx .«block_size») (blocks-hold (e .tx .«block_size») k (size-pos e o .0))) q)
     (length-set (e .endpoints) i _))
 
-followed-effect : (e : End) (n : List ℕ) (i : ℕ) (q : Search) → isOpen e ≡ true → bindingAt (holds (e .rx .count) n) (e .bindings) ≡ q → Effect (registerChange (blocksFor (e .tx .size) (length n + 1))) e no-part (followed e n i q)
+followed-effect : (e : End) (n : List ℕ) (i : ℕ) (q : Search) → isOpen e ≡ true → bindingAt (holds (e .rx .«block_count») n) (e .bindings) ≡ q → Effect (registerChange (blocksFor (e .tx .«block_size») (length n + 1))) e no-part (followed e n i q)
 followed-effect e n i nowhere o h = accepts refl o (refl, refl) (keeps (become e i _ 0 n) as-was (length-set (e .endpoints) i _))
 followed-effect e n i (foundAt j) o h =
-    let w = first-at (holds (e .rx .count) n) noBinding (e .bindings) 8 0 j h in
+    let w = first-at (holds (e .rx .«block_count») n) noBinding (e .bindings) 8 0 j h in
     let b : Binding = bindingOf (e .bindings) j in
-    let z = every (b .stored ∷ same (b .name) (paddedName n) ∷ lies (e .rx .count) (b .start) (b .count) ∷ []) (w .0) in
+    let z = every (b .stored ∷ same (b .name) (paddedName n) ∷ lies (e .rx .«block_count») (b .start) (b .count) ∷ []) (w .0) in
     accepts refl o (refl, refl) (keeps (become e i _ (b .address) n) (forgets j (omega arith) (z .0)) (length-set (e .endpoints) i _))
 
-register-effect : (e : End) (l : ℕ) (n : List ℕ) → Effect (registerChange (blocksFor (e .tx .size) (length n + 1))) e no-part (registerOf e l n)
+register-effect : (e : End) (l : ℕ) (n : List ℕ) → Effect (registerChange (blocksFor (e .tx .«block_size») (length n + 1))) e no-part (registerOf e l n)
 unfolding registerOf
 register-effect e l n =
     checked (whole e (e .tx) l) _ (refl, refl) λ w.
@@ -268,16 +268,16 @@ register-effect e l n =
     checked (not (someEndpoint (registered n) (e .endpoints))) _ (refl, refl) λ _.
     found (endpointAt (at isUnused) (e .endpoints)) _ (refl, refl) λ i _.
     let o = whole-open e (e .tx) l w in
-    picked (e .initiator) (initiates-effect e n i o) (followed-effect e n i (bindingAt (holds (e .rx .count) n) (e .bindings)) o refl)
+    picked (e .initiator) (initiates-effect e n i o) (followed-effect e n i (bindingAt (holds (e .rx .«block_count») n) (e .bindings)) o refl)
 
 -- arrivals
 -- blocks of K from b on lie inside
-fit-run : (g : Region) (b k : ℕ) → 0 < g .size → ltb b (g .count) ≡ true → leb (k + 4) ((g .count - b) * g .size) ≡ true → b + blocksFor (g .size) k ≤ g .count
+fit-run : (g : Region) (b k : ℕ) → 0 < g .«block_size» → ltb b (g .«block_count») ≡ true → leb (k + 4) ((g .«block_count» - b) * g .«block_size») ≡ true → b + blocksFor (g .«block_size») k ≤ g .«block_count»
 fit-run g b k p h f =
-    let l = ltb-true b (g .count) h in
-    omega (arith, blocks-least (g .size) k (g .count - b) (leb-true (k + 4) ((g .count - b) * g .size) f) p)
+    let l = ltb-true b (g .«block_count») h in
+    omega (arith, blocks-least (g .«block_size») k (g .«block_count» - b) (leb-true (k + 4) ((g .«block_count» - b) * g .«block_size») f) p)
 
-data-effect : (e : End) (a b : ℕ) (r : List ℕ) → isOpen e ≡ true → Effect (deliveryChange (e .rx .size)) e no-part (answer (dataRule e a b) r)
+data-effect : (e : End) (a b : ℕ) (r : List ℕ) → isOpen e ≡ true → Effect (deliveryChange (e .rx .«block_size»)) e no-part (answer (dataRule e a b) r)
 data-effect e a b r o =
     let k : ℕ = sizeIn e b r in
     let g : Region = e .rx in
@@ -285,20 +285,20 @@ data-effect e a b r o =
     rw (data-flat e a b r)
     (checked (leb a 0xFD) _ (refl, refl) λ _.
     checked (someEndpoint (boundAt a) (e .endpoints)) _ (refl, refl) λ _.
-    checked (ltb b (g .count)) _ (refl, refl) λ h.
+    checked (ltb b (g .«block_count»)) _ (refl, refl) λ h.
     checked (fitsArea (e .rx) b k) _ (refl, refl) λ f.
     checked (areFree (e .held) (e .rx) b k) _ (refl, refl) λ u.
     let m = fit-run g b k p h f in
-    let x = blocks-hold (g .size) k p in
+    let x = blocks-hold (g .«block_size») k p in
     accepts refl o (refl, refl)
-    (keeps (e .endpoints) (receives b (blocksFor (g .size) k) a k (le-leb (k + 4) (blocksFor (g .size) k * g .size) x) u (blocks-one (g .size) k p) m) refl))
+    (keeps (e .endpoints) (receives b (blocksFor (g .«block_size») k) a k (le-leb (k + 4) (blocksFor (g .«block_size») k * g .«block_size») x) u (blocks-one (g .«block_size») k p) m) refl))
 
 release-effect : (e : End) (b : ℕ) → isOpen e ≡ true → Effect (λ _. frees transmit b) e no-part (releaseOf e b)
 unfolding releaseOf
 release-effect e b o =
-    checked (ltb b (e .tx .count)) _ (refl, refl) λ _.
-    checked (starts SentData (e .tx .count) (e .sent) b) _ (refl, refl) λ h.
-    accepts refl o (refl, refl) (sends (e .endpoints) (run-freed b (live (run-of SentData (e .tx .count) (e .sent) b h) refl)) refl)
+    checked (ltb b (e .tx .«block_count»)) _ (refl, refl) λ _.
+    checked (starts SentData (e .tx .«block_count») (e .sent) b) _ (refl, refl) λ h.
+    accepts refl o (refl, refl) (sends (e .endpoints) (run-freed b (live (run-of SentData (e .tx .«block_count») (e .sent) b h) refl)) refl)
 
 boundNow-length : (ps : List Endpoint) (a : ℕ) (q : Search) → length (boundNow ps a q) ≡ length ps
 boundNow-length ps a nowhere = refl
@@ -308,13 +308,13 @@ bindingReleased-effect : (e : End) (a b : ℕ) → isOpen e ≡ true → Effect 
 unfolding releasedBoundOf
 bindingReleased-effect e a b o =
     checked (leb a 0xFD) _ (refl, refl) λ _.
-    checked (ltb b (e .tx .count)) _ (refl, refl) λ _.
-    checked (starts SentBinding (e .tx .count) (e .sent) b && eqb (entry (e .sent) b .address) a) _ (refl, refl) λ h.
-    let r = run-of SentBinding (e .tx .count) (e .sent) b (both (starts SentBinding (e .tx .count) (e .sent) b) _ h .0) in
+    checked (ltb b (e .tx .«block_count»)) _ (refl, refl) λ _.
+    checked (starts SentBinding (e .tx .«block_count») (e .sent) b && eqb (entry (e .sent) b .address) a) _ (refl, refl) λ h.
+    let r = run-of SentBinding (e .tx .«block_count») (e .sent) b (both (starts SentBinding (e .tx .«block_count») (e .sent) b) _ h .0) in
     let q : Search = endpointAt (waitingAt a) (e .endpoints) in
     accepts refl o (refl, refl) (sends (boundNow (e .endpoints) a q) (run-freed b (live r refl)) (boundNow-length (e .endpoints) a q))
 
-boundTo-effect : (e : End) (a b n : ℕ) (its : List ℕ) (q : Search) → isOpen e ≡ true → allFree (e .held) b n ≡ true → 1 ≤ n → b + n ≤ e .rx .count →
+boundTo-effect : (e : End) (a b n : ℕ) (its : List ℕ) (q : Search) → isOpen e ≡ true → allFree (e .held) b n ≡ true → 1 ≤ n → b + n ≤ e .rx .«block_count» →
     Effect (storedChange b n) e no-part (boundTo e a b n its q)
 boundTo-effect e a b n its nowhere o f l m =
     found (bindingAt (λ x. not (x .stored)) (e .bindings)) _ (refl, refl) λ j h.
@@ -322,7 +322,7 @@ boundTo-effect e a b n its nowhere o f l m =
     accepts refl o (refl, refl) (keeps (e .endpoints) (stores b n a j (paddedName its) f l m (omega arith) (not-true _ (w .0))) refl)
 boundTo-effect e a b n its (foundAt i) o f l m = accepts refl o (refl, refl) (keeps (become e i _ a its) as-was (length-set (e .endpoints) i _))
 
-named-effect : (e : End) (a b n : ℕ) (q : Name) → isOpen e ≡ true → allFree (e .held) b n ≡ true → 1 ≤ n → b + n ≤ e .rx .count →
+named-effect : (e : End) (a b n : ℕ) (q : Name) → isOpen e ≡ true → allFree (e .held) b n ≡ true → 1 ≤ n → b + n ≤ e .rx .«block_count» →
     Effect (storedChange b n) e no-part (withName e (boundNamed e a b n) q)
 unfolding boundNamed
 named-effect e a b n endless o f l m = refuses _ refl
@@ -331,7 +331,7 @@ named-effect e a b n (name cs) o f l m =
     checked (not (someEndpoint (clashes a cs) (e .endpoints)) && not (someBinding (clashesStored a cs) (e .bindings))) _ (refl, refl) λ _.
     boundTo-effect e a b n cs (endpointAt (waitingFor cs) (e .endpoints)) o f l m
 
-bound-effect : (e : End) (a b : ℕ) (r : List ℕ) → isOpen e ≡ true → Effect (storedChange b (blocksFor (e .rx .size) (sizeIn e b r))) e no-part (answer (boundRule e a b) r)
+bound-effect : (e : End) (a b : ℕ) (r : List ℕ) → isOpen e ≡ true → Effect (storedChange b (blocksFor (e .rx .«block_size») (sizeIn e b r))) e no-part (answer (boundRule e a b) r)
 bound-effect e a b r o =
     let k : ℕ = sizeIn e b r in
     let g : Region = e .rx in
@@ -339,10 +339,10 @@ bound-effect e a b r o =
     rw (bound-flat e a b r)
     (checked (not (e .initiator)) _ (refl, refl) λ _.
     checked (leb a 0xFD) _ (refl, refl) λ _.
-    checked (ltb b (g .count)) _ (refl, refl) λ h.
+    checked (ltb b (g .«block_count»)) _ (refl, refl) λ h.
     checked (fitsArea (e .rx) b k) _ (refl, refl) λ f.
     checked (areFree (e .held) (e .rx) b k) _ (refl, refl) λ u.
-    named-effect e a b (blocksFor (g .size) k) (nameIn (min k 32) (contentAt e b) r) o u (blocks-one (g .size) k p) (fit-run g b k p h f))
+    named-effect e a b (blocksFor (g .«block_size») k) (nameIn (min k 32) (contentAt e b) r) o u (blocks-one (g .«block_size») k p) (fit-run g b k p h f))
 
 decoded-effect : (e : End) (l : Control) (r : List ℕ) → isOpen e ≡ true → Effect (arrivalChange (e .rx) r l) e no-part (answer (decodedRule e l) r)
 decoded-effect e UnknownKind r o = refuses _ refl

@@ -100,7 +100,7 @@ sent-matches {t = t} l w b (run-taken u s n a k su g f o m) h x = (taken-noted (
 sent-matches l w b (run-freed s v) h x = (freed-noted (l transmit) h w b s v x, refl)
 sent-matches l w b (run-trimmed u s n a k v su g o m) h x = (trimmed-noted (l transmit) h w b u s n a k v su o m x, refl)
 
-held-matches : {g : Region} {t t′ : List Entry} {bs bs′ : List Binding} {x : RunChange} (l : Ledger) → WellFormed (g .count) (heldRun g) t → Stored t bs → g .count ≤ 256 → HeldChange g t bs x t′ bs′ →
+held-matches : {g : Region} {t t′ : List Entry} {bs bs′ : List Binding} {x : RunChange} (l : Ledger) → WellFormed (g .«block_count») (heldRun g) t → Stored t bs → g .«block_count» ≤ 256 → HeldChange g t bs x t′ bs′ →
     Same (l receive) t → (s : ℕ) → (enter x l receive s ≡ runAt t′ s) × (enter x l transmit s ≡ l transmit s)
 held-matches l w st b as-was h x = (h x, refl)
 held-matches {t = t} l w st b (receives s n a k y f o m) h x = (taken-noted (l receive) h (taken-view w b ReceivedData s n a k o m) (λ i p q. free-at t s n i f p q) refl refl o x, refl)

@@ -357,8 +357,8 @@ others-freed {t} {t′} {s} {n} v i h = go (v i) h
     go (apart p e) h = e
 
 -- a start's test tells the use
-started : (u : Use) (g : Region) (t : List Entry) (s : ℕ) → starts u (g .count) t s ≡ true → entry t s .usage ≡ u
-started u g t s h = use-is u (entry t s .usage) (every (inUse u t s ∷ lies (g .count) s (entry t s .count) ∷ []) h .0)
+started : (u : Use) (g : Region) (t : List Entry) (s : ℕ) → starts u (g .«block_count») t s ≡ true → entry t s .usage ≡ u
+started u g t s h = use-is u (entry t s .usage) (every (inUse u t s ∷ lies (g .«block_count») s (entry t s .count) ∷ []) h .0)
 
 module _ {e : End} (w : Separate e) (v : InvOf e) where
   checked : {o : Outcome} (b : Bool) (n : ℕ) → (b ≡ true → Good o) → Good (check b n e o)
@@ -369,10 +369,10 @@ module _ {e : End} (w : Separate e) (v : InvOf e) where
   found nowhere n f = record { kept = v }
   found (foundAt s) n f = f s refl
 
-  few : isOpen e ≡ true → e .tx .count ≤ 256
+  few : isOpen e ≡ true → e .tx .«block_count» ≤ 256
   few o = let z = sound e o in omega (arith, leb-true)
 
-  wide : isOpen e ≡ true → 0 < e .tx .size
+  wide : isOpen e ≡ true → 0 < e .tx .«block_size»
   wide o = let z = sound e o in omega (arith, leb-true)
 
   -- rings
@@ -389,31 +389,31 @@ module _ {e : End} (w : Separate e) (v : InvOf e) where
   pull-good false ws bs a = record { kept = v }
 
   -- messages
-  run-view : (u : Use) (a k m s : ℕ) → isOpen e ≡ true → freeRun (e .tx .count) (e .sent) (blocksFor (e .tx .size) k) ≡ foundAt s → (i : ℕ) →
-      Taken (e .sent) (taken (e .sent) u s (blocksFor (e .tx .size) k) a m) (runEntry u (blocksFor (e .tx .size) k) a m) s (blocksFor (e .tx .size) k) i
+  run-view : (u : Use) (a k m s : ℕ) → isOpen e ≡ true → freeRun (e .tx .«block_count») (e .sent) (blocksFor (e .tx .«block_size») k) ≡ foundAt s → (i : ℕ) →
+      Taken (e .sent) (taken (e .sent) u s (blocksFor (e .tx .«block_size») k) a m) (runEntry u (blocksFor (e .tx .«block_size») k) a m) s (blocksFor (e .tx .«block_size») k) i
   unfolding freeRun
   run-view u a k m s o q =
-      let z = lowest-at (e .tx .count) (e .sent) 0 (blocksFor (e .tx .size) k) (e .tx .count) s q in
-      taken-view (w .sent) (few o) u s (blocksFor (e .tx .size) k) a m (blocks-one (e .tx .size) k (wide o)) (z .room)
+      let z = lowest-at (e .tx .«block_count») (e .sent) 0 (blocksFor (e .tx .«block_size») k) (e .tx .«block_count») s q in
+      taken-view (w .sent) (few o) u s (blocksFor (e .tx .«block_size») k) a m (blocks-one (e .tx .«block_size») k (wide o)) (z .room)
 
   -- and the bindings that are sent stay
-  run-stays : (u : Use) (a k m s : ℕ) → isOpen e ≡ true → freeRun (e .tx .count) (e .sent) (blocksFor (e .tx .size) k) ≡ foundAt s → (i : ℕ) → IsAnnounced (e .sent) i →
-      entry (taken (e .sent) u s (blocksFor (e .tx .size) k) a m) i ≡ entry (e .sent) i
+  run-stays : (u : Use) (a k m s : ℕ) → isOpen e ≡ true → freeRun (e .tx .«block_count») (e .sent) (blocksFor (e .tx .«block_size») k) ≡ foundAt s → (i : ℕ) → IsAnnounced (e .sent) i →
+      entry (taken (e .sent) u s (blocksFor (e .tx .«block_size») k) a m) i ≡ entry (e .sent) i
   unfolding freeRun
   run-stays u a k m s o q i h =
-      let z = lowest-at (e .tx .count) (e .sent) 0 (blocksFor (e .tx .size) k) (e .tx .count) s q in
-      taken-stays (w .sent) (run-view u a k m s o q) (λ j p r. free-at (e .sent) s (blocksFor (e .tx .size) k) j (z .free-there) p r) (blocks-one (e .tx .size) k (wide o)) i (rw h)
+      let z = lowest-at (e .tx .«block_count») (e .sent) 0 (blocksFor (e .tx .«block_size») k) (e .tx .«block_count») s q in
+      taken-stays (w .sent) (run-view u a k m s o q) (λ j p r. free-at (e .sent) s (blocksFor (e .tx .«block_size») k) j (z .free-there) p r) (blocks-one (e .tx .«block_size») k (wide o)) i (rw h)
 
   reserve-good : (k : ℕ) → Good (reserveOf e k)
   unfolding reserveOf changed
   reserve-good k =
       checked (isOpen e) 6 λ o.
-      checked (leb (blocksFor (e .tx .size) k) (e .tx .count)) 23 λ _.
-      found (freeRun (e .tx .count) (e .sent) (blocksFor (e .tx .size) k)) 24 λ s q.
+      checked (leb (blocksFor (e .tx .«block_size») k) (e .tx .«block_count»)) 23 λ _.
+      found (freeRun (e .tx .«block_count») (e .sent) (blocksFor (e .tx .«block_size») k)) 24 λ s q.
       record { kept = same-sent v (others-taken (run-view Reserved 0 k 0 s o q) refl) (run-stays Reserved 0 k 0 s o q) }
 
   -- a run of another use freed
-  freed-sent : (u : Use) (s : ℕ) → isOpen e ≡ true → blockKind u ≡ leading → isUse SentBinding u ≡ false → starts u (e .tx .count) (e .sent) s ≡ true →
+  freed-sent : (u : Use) (s : ℕ) → isOpen e ≡ true → blockKind u ≡ leading → isUse SentBinding u ≡ false → starts u (e .tx .«block_count») (e .sent) s ≡ true →
       Inv (e .initiator) (freed (e .sent) s (entry (e .sent) s .count)) (e .endpoints) (e .bindings)
   freed-sent u s o k d h =
       let q = started u (e .tx) (e .sent) s h in
@@ -425,34 +425,34 @@ module _ {e : End} (w : Separate e) (v : InvOf e) where
   unfolding sendOf changed
   send-good n s a k =
       checked (whole e (e .tx) n) 6 λ b.
-      checked (starts Reserved (e .tx .count) (e .sent) s) 25 λ h.
+      checked (starts Reserved (e .tx .«block_count») (e .sent) s) 25 λ h.
       checked (someEndpoint (boundAt a) (e .endpoints)) 15 λ _.
-      checked (leb (k + 4) (entry (e .sent) s .count * e .tx .size)) 23 λ f.
+      checked (leb (k + 4) (entry (e .sent) s .count * e .tx .«block_size»)) 23 λ f.
       let o = whole-open e (e .tx) n b in
       let l : Live (e .sent) s = rw (started Reserved (e .tx) (e .sent) s h) in
-      let m = blocks-least (e .tx .size) k (entry (e .sent) s .count) (leb-true (k + 4) (entry (e .sent) s .count * e .tx .size) f) (wide o) in
-      let one = blocks-one (e .tx .size) k (wide o) in
-      let t = taken-view (free-law (w .sent) (few o) s l) (few o) SentData s (blocksFor (e .tx .size) k) a k one (omega (arith, w .sent .within s l .1)) in
+      let m = blocks-least (e .tx .«block_size») k (entry (e .sent) s .count) (leb-true (k + 4) (entry (e .sent) s .count * e .tx .«block_size») f) (wide o) in
+      let one = blocks-one (e .tx .«block_size») k (wide o) in
+      let t = taken-view (free-law (w .sent) (few o) s l) (few o) SentData s (blocksFor (e .tx .«block_size») k) a k one (omega (arith, w .sent .within s l .1)) in
       record { kept = same-sent (freed-sent Reserved s o refl refl h) (others-taken t refl) (λ i q. taken-stays (free-law (w .sent) (few o) s l) t (freed-free (w .sent) (few o) s _ l m) one i (rw q)) }
 
   drop-good : (s : ℕ) → Good (dropOf e s)
   unfolding dropOf changed
   drop-good s =
       checked (isOpen e) 6 λ o.
-      checked (starts Reserved (e .tx .count) (e .sent) s) 25 λ h.
+      checked (starts Reserved (e .tx .«block_count») (e .sent) s) 25 λ h.
       record { kept = freed-sent Reserved s o refl refl h }
 
   done-good : (s : ℕ) → Good (doneOf e s)
   unfolding doneOf changed
-  done-good s = checked (isOpen e) 6 λ _. checked (startsData (e .rx .count) (e .rx .size) (e .held) s) 25 λ _. record { kept = v }
+  done-good s = checked (isOpen e) 6 λ _. checked (startsData (e .rx .«block_count») (e .rx .«block_size») (e .held) s) 25 λ _. record { kept = v }
 
   room-good : (n s : ℕ) → Good (roomOf e n s)
   unfolding roomOf
-  room-good n s = checked (whole e (e .tx) n) 6 λ _. checked (starts Reserved (e .tx .count) (e .sent) s) 25 λ _. record { kept = v }
+  room-good n s = checked (whole e (e .tx) n) 6 λ _. checked (starts Reserved (e .tx .«block_count») (e .sent) s) 25 λ _. record { kept = v }
 
   view-good : (n s : ℕ) → Good (viewOf e n s)
   unfolding viewOf
-  view-good n s = checked (whole e (e .rx) n) 6 λ _. checked (startsData (e .rx .count) (e .rx .size) (e .held) s) 25 λ _. record { kept = v }
+  view-good n s = checked (whole e (e .rx) n) 6 λ _. checked (startsData (e .rx .«block_count») (e .rx .«block_size») (e .held) s) 25 λ _. record { kept = v }
 
   roomQuestion-good : (s n : ℕ) → Good (roomQuestion e s n)
   unfolding roomQuestion
@@ -480,15 +480,15 @@ module _ {e : End} (w : Separate e) (v : InvOf e) where
       let x = first-at (at isUnused) noEndpoint (e .endpoints) 8 0 i q in
       let p : Endpoint = record { stage = Waiting; address = a; name = paddedName n } in
       let low = address-lowest (e .endpoints) (w .eight) (ap isFound q) .0 in
-      checked (leb (blocksFor (e .tx .size) (length n + 1)) (e .tx .count)) 23 λ _.
-      found (freeRun (e .tx .count) (e .sent) (blocksFor (e .tx .size) (length n + 1))) 24 λ s z.
+      checked (leb (blocksFor (e .tx .«block_size») (length n + 1)) (e .tx .«block_count»)) 23 λ _.
+      found (freeRun (e .tx .«block_count») (e .sent) (blocksFor (e .tx .«block_size») (length n + 1))) 24 λ s z.
       record {
         kept = rw r (record {
           names = named-by n i p (omega arith) refl c (λ j h _. l .none-stored j h);
           role = leads (announced-kept l (w .eight) i p (omega arith) (x .0) refl refl
               (λ j h y. none-passes (uses a) noEndpoint (e .endpoints) (w .eight) refl (not-found _ low) j (rw (h, eq-eqb _ _ y)))
               (run-view SentBinding a (length n + 1) (length n + 1) s o z) refl
-              (first-entry (run-view SentBinding a (length n + 1) (length n + 1) s o z s) (blocks-one (e .tx .size) (length n + 1) (wide o)))
+              (first-entry (run-view SentBinding a (length n + 1) (length n + 1) s o z s) (blocks-one (e .tx .«block_size») (length n + 1) (wide o)))
               (run-stays SentBinding a (length n + 1) (length n + 1) s o z));
         });
       }
@@ -499,12 +499,12 @@ module _ {e : End} (w : Separate e) (v : InvOf e) where
   follower-kept r l n a = rw r (record { names = n; role = follows (record { none-sent = l .none-sent; addresses = a }) })
 
   followed-good : (n : List ℕ) (i : ℕ) (q : Search) → e .initiator ≡ false → Follows (e .sent) (e .endpoints) (e .bindings) → Unnamed n → i < 8 →
-      bindingAt (holds (e .rx .count) n) (e .bindings) ≡ q → Good (followed e n i q)
+      bindingAt (holds (e .rx .«block_count») n) (e .bindings) ≡ q → Good (followed e n i q)
   unfolding changed
   followed-good n i nowhere r l c li q =
       let p : Endpoint = record { stage = Waiting; address = 0; name = paddedName n } in
       let unstored : (j : ℕ) → IsKept (e .bindings) j → bindingOf (e .bindings) j .name ≡ paddedName n → ⊥ =
-      λ j h y. none-passes (holds (e .rx .count) n) noBinding (e .bindings) (w .stored .eight) refl q j
+      λ j h y. none-passes (holds (e .rx .«block_count») n) noBinding (e .bindings) (w .stored .eight) refl q j
       (rw (stored-holds (e .rx) (w .held) (w .stored) n j, h, y) (same-self (paddedName n))) in
       record {
         kept = follower-kept r l (named-by n i p li refl c unstored)
@@ -512,8 +512,8 @@ module _ {e : End} (w : Separate e) (v : InvOf e) where
       }
   followed-good n i (foundAt j) r l c li q =
       let b : Binding = bindingOf (e .bindings) j in
-      let x = first-at (holds (e .rx .count) n) noBinding (e .bindings) 8 0 j q in
-      let z = every (b .stored ∷ same (b .name) (paddedName n) ∷ lies (e .rx .count) (b .start) (b .count) ∷ []) (x .0) in
+      let x = first-at (holds (e .rx .«block_count») n) noBinding (e .bindings) 8 0 j q in
+      let z = every (b .stored ∷ same (b .name) (paddedName n) ∷ lies (e .rx .«block_count») (b .start) (b .count) ∷ []) (x .0) in
       let p : Endpoint = record { stage = Bound; address = b .address; name = paddedName n } in
       let lj : j < length (e .bindings) = omega (arith, w .stored .eight) in
       let lp : i < length (e .endpoints) = omega (arith, w .eight) in
@@ -534,9 +534,9 @@ module _ {e : End} (w : Separate e) (v : InvOf e) where
       go (e .initiator) i refl (v .role) (whole-open e (e .tx) l b) unnamed q (omega arith)
     where
       go : (r : Bool) (i : ℕ) → e .initiator ≡ r → Role (e .sent) (e .endpoints) (e .bindings) r → isOpen e ≡ true → Unnamed n → endpointAt (at isUnused) (e .endpoints) ≡ foundAt i → i < 8 →
-          Good (pick r (initiates e n i) (followed e n i (bindingAt (holds (e .rx .count) n) (e .bindings))))
+          Good (pick r (initiates e n i) (followed e n i (bindingAt (holds (e .rx .«block_count») n) (e .bindings))))
       go true i r (leads l) o c q li = initiates-good n i o r l c q
-      go false i r (follows l) o c q li = followed-good n i (bindingAt (holds (e .rx .count) n) (e .bindings)) r l c li refl
+      go false i r (follows l) o c q li = followed-good n i (bindingAt (holds (e .rx .«block_count») n) (e .bindings)) r l c li refl
 
   -- a binding that arrives: neither its address nor its name is another's
   record Unclashed (a : ℕ) (n : List ℕ) : Type 0 where
@@ -600,11 +600,11 @@ module _ {e : End} (w : Separate e) (v : InvOf e) where
       rw (bound-flat e a b r)
       (checked (not (e .initiator)) 19 λ h.
       checked (leb a 0xFD) 14 λ _.
-      checked (ltb b (e .rx .count)) 16 λ _.
+      checked (ltb b (e .rx .«block_count»)) 16 λ _.
       checked (fitsArea (e .rx) b k) 17 λ _.
       checked (areFree (e .held) (e .rx) b k) 18 λ _.
       let f = follower refl (v .role) h in
-      named-good a b (blocksFor (e .rx .size) k) (nameIn (min k 32) (contentAt e b) r) (f .0) (f .1))
+      named-good a b (blocksFor (e .rx .«block_size») k) (nameIn (min k 32) (contentAt e b) r) (f .0) (f .1))
 
   -- the other arrivals
   data-good : (a b : ℕ) (r : List ℕ) → Good (answer (dataRule e a b) r)
@@ -614,7 +614,7 @@ module _ {e : End} (w : Separate e) (v : InvOf e) where
       rw (data-flat e a b r)
       (checked (leb a 0xFD) 14 λ _.
       checked (someEndpoint (boundAt a) (e .endpoints)) 15 λ _.
-      checked (ltb b (e .rx .count)) 16 λ _.
+      checked (ltb b (e .rx .«block_count»)) 16 λ _.
       checked (fitsArea (e .rx) b k) 17 λ _.
       checked (areFree (e .held) (e .rx) b k) 18 λ _.
       record { kept = v })
@@ -622,12 +622,12 @@ module _ {e : End} (w : Separate e) (v : InvOf e) where
   release-good : (b : ℕ) → isOpen e ≡ true → Good (releaseOf e b)
   unfolding releaseOf changed
   release-good b o =
-      checked (ltb b (e .tx .count)) 16 λ _.
-      checked (starts SentData (e .tx .count) (e .sent) b) 25 λ h.
+      checked (ltb b (e .tx .«block_count»)) 16 λ _.
+      checked (starts SentData (e .tx .«block_count») (e .sent) b) 25 λ h.
       record { kept = freed-sent SentData b o refl refl h }
 
   -- a binding released: at an initiator, since a follower sent none
-  released-kept : {r : Bool} → Role (e .sent) (e .endpoints) (e .bindings) r → (b : ℕ) (q : Search) → isOpen e ≡ true → starts SentBinding (e .tx .count) (e .sent) b ≡ true →
+  released-kept : {r : Bool} → Role (e .sent) (e .endpoints) (e .bindings) r → (b : ℕ) (q : Search) → isOpen e ≡ true → starts SentBinding (e .tx .«block_count») (e .sent) b ≡ true →
       endpointAt (waitingAt (entry (e .sent) b .address)) (e .endpoints) ≡ q → e .initiator ≡ r →
       Inv (e .initiator) (freed (e .sent) b (entry (e .sent) b .count)) (boundNow (e .endpoints) (entry (e .sent) b .address) q) (e .bindings)
   released-kept (follows l) b q o h z r = absurd (l .none-sent b (started SentBinding (e .tx) (e .sent) b h))
@@ -654,9 +654,9 @@ module _ {e : End} (w : Separate e) (v : InvOf e) where
   unfolding releasedBoundOf changed
   bindingReleased-good a b o =
       checked (leb a 0xFD) 14 λ _.
-      checked (ltb b (e .tx .count)) 16 λ _.
-      checked (starts SentBinding (e .tx .count) (e .sent) b && eqb (entry (e .sent) b .address) a) 25 λ h.
-      let z = both (starts SentBinding (e .tx .count) (e .sent) b) (eqb (entry (e .sent) b .address) a) h in
+      checked (ltb b (e .tx .«block_count»)) 16 λ _.
+      checked (starts SentBinding (e .tx .«block_count») (e .sent) b && eqb (entry (e .sent) b .address) a) 25 λ h.
+      let z = both (starts SentBinding (e .tx .«block_count») (e .sent) b) (eqb (entry (e .sent) b .address) a) h in
       record { kept = rw (← (eqb-true (entry (e .sent) b .address) a (z .1))) (released-kept (v .role) b _ o (z .0) refl refl) }
 
   decoded-good : (l : Control) (r : List ℕ) → isOpen e ≡ true → Good (answer (decodedRule e l) r)
@@ -674,10 +674,10 @@ module _ {e : End} (w : Separate e) (v : InvOf e) where
   -- each call
   step-good : (c : Call) → Good (step e c)
   unfolding step rule lent arrivalRule startOf pushOf
-  step-good (start tx) = let o : RingOutcome = ringStart (length tx) (ringOf (e .align) (e .tx)) in push-good (whole e (e .tx) (length tx)) (o .region) (o .answer)
-  step-good (push tx c) = let o : RingOutcome = ringPush tx (ringOf (e .align) (e .tx)) (e .write) c in push-good (whole e (e .tx) (length tx)) (o .region) (o .answer)
+  step-good (start tx) = let o : RingOutcome = ringStart (length tx) (ringOf (e .alignment) (e .tx)) in push-good (whole e (e .tx) (length tx)) (o .region) (o .answer)
+  step-good (push tx c) = let o : RingOutcome = ringPush tx (ringOf (e .alignment) (e .tx)) (e .write) c in push-good (whole e (e .tx) (length tx)) (o .region) (o .answer)
   step-good (pull rx b) =
-      let o : RingOutcome = answer (ringPull (length rx) (ringOf (e .align) (e .rx)) (e .read) (length b)) rx in
+      let o : RingOutcome = answer (ringPull (length rx) (ringOf (e .alignment) (e .rx)) (e .read) (length b)) rx in
       rw (pull-answer e (length rx) (length b) rx) (pull-good (whole e (e .rx) (length rx)) (o .region) (o .buffer) (o .answer))
   step-good (reserve k) = reserve-good k
   step-good (room tx s) = room-good (length tx) s

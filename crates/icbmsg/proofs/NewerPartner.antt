@@ -72,15 +72,15 @@ names e (suc n) (suc n′) p (suc z) k r r′ h h′ q same ks =
     (λ i l. rw later at (same (suc i) (omega arith))) (λ cs. ks (getD r p 0 ∷ cs)) in
     read (getD r p 0) _ _ refl c (picked (eqb (getD r p 0) 0) (ks []) rest)
 
-sized : (e : End) (a b k k′ z : ℕ) {r r′ : List ℕ} → k + 4 ≤ (e .rx .count - b) * e .rx .size → k′ + 4 ≤ (e .rx .count - b) * e .rx .size →
-    blocksFor (e .rx .size) k′ ≡ blocksFor (e .rx .size) k → k ≤ k′ → z < k → z < 32 → getD r (contentAt e b + z) 0 ≡ 0 →
+sized : (e : End) (a b k k′ z : ℕ) {r r′ : List ℕ} → k + 4 ≤ (e .rx .«block_count» - b) * e .rx .«block_size» → k′ + 4 ≤ (e .rx .«block_count» - b) * e .rx .«block_size» →
+    blocksFor (e .rx .«block_size») k′ ≡ blocksFor (e .rx .«block_size») k → k ≤ k′ → z < k → z < 32 → getD r (contentAt e b + z) 0 ≡ 0 →
     ((i : ℕ) → i < k → getD r′ (contentAt e b + i) 0 ≡ getD r (contentAt e b + i) 0) →
     Same (boundSized e a b k) (boundSized e a b k′) r r′
 unfolding boundSized
 sized e a b k k′ z {r} {r′} f f′ bl l i y q same =
-    rw (le-leb (k + 4) ((e .rx .count - b) * e .rx .size) f, le-leb (k′ + 4) ((e .rx .count - b) * e .rx .size) f′, bl)
+    rw (le-leb (k + 4) ((e .rx .«block_count» - b) * e .rx .«block_size») f, le-leb (k′ + 4) ((e .rx .«block_count» - b) * e .rx .«block_size») f′, bl)
     (checked (areFree (e .held) (e .rx) b k) 18 e
-    (names e (min k 32) (min k′ 32) (contentAt e b) z (λ name. gives (boundNamed e a b (blocksFor (e .rx .size) k) name)) r r′
+    (names e (min k 32) (min k′ 32) (contentAt e b) z (λ name. gives (boundNamed e a b (blocksFor (e .rx .«block_size») k) name)) r r′
     (omega arith) (omega arith) q (λ j h. same j (omega arith)) (λ cs. record { is = refl })))
 
 same-bound : (e : End) (a b : ℕ) {r r′ : List ℕ} → Grown e b r r′ → Same (boundRule e a b) (boundRule e a b) r r′
@@ -88,15 +88,15 @@ unfolding boundRule
 same-bound e a b {r} {r′} g =
     checked (not (e .initiator)) 19 e
     (checked (leb a 0xFD) 14 e
-    (checked (ltb b (e .rx .count)) 16 e
-    (record { is = sized e a b (sizeIn e b r) (sizeIn e b r′) (g .zeroAt) (g .fitting) (fits-too (e .rx .size) (sizeIn e b r) (sizeIn e b r′) (e .rx .count - b) (g .fitting) (g .blocks)) (g .blocks) (g .larger) (g .inside) (g .early) (g .ended) (g .stays) .is })))
+    (checked (ltb b (e .rx .«block_count»)) 16 e
+    (record { is = sized e a b (sizeIn e b r) (sizeIn e b r′) (g .zeroAt) (g .fitting) (fits-too (e .rx .«block_size») (sizeIn e b r) (sizeIn e b r′) (e .rx .«block_count» - b) (g .fitting) (g .blocks)) (g .blocks) (g .larger) (g .inside) (g .early) (g .ended) (g .stays) .is })))
 
 same-step : (e : End) {c d : Call} → Change e c d → step e d ≡ step e c
 unfolding step rule lent arrivalRule viewOf
 same-step e unchanged = refl
 same-step e (longer {m = m} more h) = rw (decode-longer m more h)
 same-step e (grown {r = r} {r′ = r′} {m = m} a b q g) =
-    rw (q, g .lent, g .lent′) (checked (whole e (e .rx) (e .rx .bytes)) 6 e (same-bound e a b g) .is)
+    rw (q, g .lent, g .lent′) (checked (whole e (e .rx) (e .rx .length)) 6 e (same-bound e a b g) .is)
 same-step e (pulls {r = r} {r′ = r′} {b = b} q h) = others e (pull r b) (rule e (pull r′ b)) r′ (rw q) h
 same-step e (arrives {r = r} {r′ = r′} {m = m} q h) = others e (arrival r m) (rule e (arrival r′ m)) r′ (rw q) h
 same-step e (views {r = r} {r′ = r′} {s = s} q) = rw q
@@ -113,7 +113,7 @@ unfolding step rule lent arrivalRule
 insert-step e (unknown-kind {rx = rx} {m = m} k hk hw) = go (isOpen e) refl
   where
     go : (o : Bool) → isOpen e ≡ o → step e (arrival rx (k ∷ m)) ≡ ignored e
-    go true q = rw (q, eq-eqb (length rx) (e .rx .bytes) (hw q), decode-unknown k m hk)
+    go true q = rw (q, eq-eqb (length rx) (e .rx .length) (hw q), decode-unknown k m hk)
     go false q = rw q
 
 from-any : (e : End) (s : List Item) → Allowed e s → run e (secondCalls s) ≡ withIgnored e s (run e (firstCalls s))

@@ -27,32 +27,32 @@ use Rattle.icbmsg.proofs.Effects.{sound, whole-open}
 pub need-least : NeedLeast
 need-least e k o =
     let z = sound e o in
-    let p : 0 < e .tx .size = omega (arith, leb-true) in
-    (blocks-hold (e .tx .size) k p, λ n h. blocks-least (e .tx .size) k n h p)
+    let p : 0 < e .tx .«block_size» = omega (arith, leb-true) in
+    (blocks-hold (e .tx .«block_size») k p, λ n h. blocks-least (e .tx .«block_size») k n h p)
 
 -- what reserving K bytes gives at an open end, whatever is done with the run
 module _ (e : End) (k : ℕ) (open-end : isOpen e ≡ true) where
   one : 1 ≤ need e k
-  one = let z = sound e open-end in blocks-one (e .tx .size) k (omega (arith, leb-true))
+  one = let z = sound e open-end in blocks-one (e .tx .«block_size») k (omega (arith, leb-true))
 
   -- no start where the test failed
-  none-at : (i : ℕ) → (leb (i + need e k) (e .tx .count) && allFree (e .sent) i (need e k)) ≡ false → FreeRun e (need e k) i → ⊥
-  none-at i h f = false≢true (sym h ∙ rw (le-leb (i + need e k) (e .tx .count) (f .0)) (all-free (e .sent) i (need e k) (f .1)))
+  none-at : (i : ℕ) → (leb (i + need e k) (e .tx .«block_count») && allFree (e .sent) i (need e k)) ≡ false → FreeRun e (need e k) i → ⊥
+  none-at i h f = false≢true (sym h ∙ rw (le-leb (i + need e k) (e .tx .«block_count») (f .0)) (all-free (e .sent) i (need e k) (f .1)))
 
   reserves : (f : ℕ → Outcome) → Reserves e k f (reserving e k f)
   unfolding freeRun
-  reserves f = go (leb (need e k) (e .tx .count)) (freeRun (e .tx .count) (e .sent) (need e k)) refl refl
+  reserves f = go (leb (need e k) (e .tx .«block_count»)) (freeRun (e .tx .«block_count») (e .sent) (need e k)) refl refl
     where
-      go : (b : Bool) (q : Search) → leb (need e k) (e .tx .count) ≡ b → freeRun (e .tx .count) (e .sent) (need e k) ≡ q → Reserves e k f (check b 23 e (foundOr 24 e f q))
-      go false q h r = too-long (leb-false (need e k) (e .tx .count) h)
+      go : (b : Bool) (q : Search) → leb (need e k) (e .tx .«block_count») ≡ b → freeRun (e .tx .«block_count») (e .sent) (need e k) ≡ q → Reserves e k f (check b 23 e (foundOr 24 e f q))
+      go false q h r = too-long (leb-false (need e k) (e .tx .«block_count») h)
       go true nowhere h r =
           no-room (record {
-            could-fit = leb-true (need e k) (e .tx .count) h;
-            no-run = λ s z. none-at s (none-lowest (e .tx .count) (e .sent) 0 (need e k) (e .tx .count) r s (omega arith) (omega (arith, z .0, one))) z;
+            could-fit = leb-true (need e k) (e .tx .«block_count») h;
+            no-run = λ s z. none-at s (none-lowest (e .tx .«block_count») (e .sent) 0 (need e k) (e .tx .«block_count») r s (omega arith) (omega (arith, z .0, one))) z;
           })
       go true (foundAt s) h r =
-          let w = lowest-at (e .tx .count) (e .sent) 0 (need e k) (e .tx .count) s r in
-          at-lowest s (leb-true (need e k) (e .tx .count) h) (w .room, λ i p q. free-at (e .sent) s (need e k) i (w .free-there) p q)
+          let w = lowest-at (e .tx .«block_count») (e .sent) 0 (need e k) (e .tx .«block_count») s r in
+          at-lowest s (leb-true (need e k) (e .tx .«block_count») h) (w .room, λ i p q. free-at (e .sent) s (need e k) i (w .free-there) p q)
           (λ i l z. none-at i (w .least i (omega arith) l) z)
 
 -- ---- register: at an open end, past its checks, it reserves
@@ -116,9 +116,9 @@ register-24 e tx n =
   where
     go : (r : Bool) (i : ℕ) → e .initiator ≡ r → (e .initiator ≡ true → Registers e tx n i) → isOpen e ≡ true →
         Tells ((i : ℕ) × Registers e tx n i × Crowded e (length n + 1))
-        (pick r (reserving e (length n + 1) (announcement e n i (unusedFrom 8 0 (e .endpoints)))) (followed e n i (bindingAt (holds (e .rx .count) n) (e .bindings))))
+        (pick r (reserving e (length n + 1) (announcement e n i (unusedFrom 8 0 (e .endpoints)))) (followed e n i (bindingAt (holds (e .rx .«block_count») n) (e .bindings))))
     go true i r k o = record { at-24 = λ h. (i, k r, is-crowded (λ s. refl) (reserves e (length n + 1) o (announcement e n i (unusedFrom 8 0 (e .endpoints)))) h) }
-    go false i r k o = follower-not e n i (bindingAt (holds (e .rx .count) n) (e .bindings))
+    go false i r k o = follower-not e n i (bindingAt (holds (e .rx .«block_count») n) (e .bindings))
 
 pub no-room-exactly : NoRoom
 no-room-exactly =

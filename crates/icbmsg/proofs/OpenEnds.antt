@@ -18,9 +18,9 @@ use Rattle.blocks.proofs.Tables.{Each, each}
 use Rattle.icbmsg.proofs.Separate.{Opens, opens, shuts, how-opened}
 
 -- the numbers of an accepted layout pass every test of a region
-region-sound : (b : Bounds) (r a : ℕ) → layout (b .begin) (b .end) (b .blocks) r a .number ≡ 0 → Each (soundRegion a (region b (layout (b .begin) (b .end) (b .blocks) r a)))
+region-sound : (b : Bounds) (r a : ℕ) → layout (b .begin) (b .end) (b .«block_count») r a .number ≡ 0 → Each (soundRegion a (region b (layout (b .begin) (b .end) (b .«block_count») r a)))
 region-sound b r a h =
-    let y = accepted-layouts-lie-inside (b .begin) (b .end) (b .blocks) r a h in
+    let y = accepted-layouts-lie-inside (b .begin) (b .end) (b .«block_count») r a h in
     let w = y .in-rule in
     omega (arith, le-leb, lt-ltb, eq-eqb, y .begins, y .header-and-data, y .blocks, y .ends, y .data-low, y .data-fours, y .block-low, w .local-low, w .local-high, w .remote-low, w .bytes-high)
 
@@ -35,21 +35,21 @@ each-append (x ∷ xs) ys h k = (h .0, each-append xs ys (h .1) k)
 opened-open : {o : Opening} {x : Outcome} → Opens o x → isOpen (x .next) ≡ eqb (x .number) 0
 unfolding isOpen
 opened-open {o} (opens p q) =
-    let tx = accepted-layouts-lie-inside (o .tx .begin) (o .tx .end) (o .tx .blocks) (o .rx .blocks) (o .align) p in
-    let rx = accepted-layouts-lie-inside (o .rx .begin) (o .rx .end) (o .rx .blocks) (o .tx .blocks) (o .align) q in
-    let t = region-sound (o .tx) (o .rx .blocks) (o .align) p in
-    let r = region-sound (o .rx) (o .tx .blocks) (o .align) q in
+    let tx = accepted-layouts-lie-inside (o .tx .begin) (o .tx .end) (o .tx .«block_count») (o .rx .«block_count») (o .alignment) p in
+    let rx = accepted-layouts-lie-inside (o .rx .begin) (o .rx .end) (o .rx .«block_count») (o .tx .«block_count») (o .alignment) q in
+    let t = region-sound (o .tx) (o .rx .«block_count») (o .alignment) p in
+    let r = region-sound (o .rx) (o .tx .«block_count») (o .alignment) q in
     each (soundEnd (freshOf o)) (
-      le-leb 4 (o .align) (tx .in-rule .alignment-low),
+      le-leb 4 (o .alignment) (tx .in-rule .alignment-low),
       (
-        le-leb (o .align) 256 (tx .in-rule .alignment-high),
+        le-leb (o .alignment) 256 (tx .in-rule .alignment-high),
         (
-          eq-eqb (o .align % 4) 0 (tx .in-rule .alignment-fours),
+          eq-eqb (o .alignment % 4) 0 (tx .in-rule .alignment-fours),
           (
-            zero-in-rule (freshOf o .tx .ring) (omega (arith, tx .data-low)),
+            zero-in-rule (freshOf o .tx .«data_length») (omega (arith, tx .data-low)),
             (
-              zero-in-rule (freshOf o .rx .ring) (omega (arith, rx .data-low)),
-              each-append (soundRegion (o .align) (freshOf o .tx)) (soundRegion (o .align) (freshOf o .rx)) t r,
+              zero-in-rule (freshOf o .rx .«data_length») (omega (arith, rx .data-low)),
+              each-append (soundRegion (o .alignment) (freshOf o .tx)) (soundRegion (o .alignment) (freshOf o .rx)) t r,
             ),
           ),
         ),

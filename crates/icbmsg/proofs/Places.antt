@@ -36,7 +36,7 @@ parts-inside e c z = go (effect e c) z
 record ByteOf (g : Region) (t : List Entry) (s p : ℕ) : Type 0 where
   live : Live t s
   low : blockAt g s ≤ p
-  high : p < blockAt g s + entry t s .count * g .size
+  high : p < blockAt g s + entry t s .count * g .«block_size»
 
 message-byte : {g : Region} {t : List Entry} {s : ℕ} {o : Outcome} (p : ℕ) → InMessage g t s o → InPart o p → ByteOf g t s p
 message-byte p m i = record { live = m .live; low = omega (arith, m .after-header, i .0); high = omega (arith, m .before-end, i .1) }
@@ -46,12 +46,12 @@ part-byte : {e : End} {f : Given → RunChange} {o : Outcome} (d : Side) (s p : 
 part-byte d s p (refuses n h) i = absurd (omega (arith, i .0, i .1))
 part-byte d s p (accepts z x m y) i = message-byte p m i
 
-module _ (g : Region) {good : Entry → Bool} {t : List Entry} (w : WellFormed (g .count) good t) (p : ℕ) where
+module _ (g : Region) {good : Entry → Bool} {t : List Entry} (w : WellFormed (g .«block_count») good t) (p : ℕ) where
   -- a message that starts before another ends before it
   in-order : (s s′ : ℕ) → s < s′ → ByteOf g t s p → ByteOf g t s′ p → ⊥
   in-order s s′ l b b′ =
-      let m = mul-le-mul-right (g .size) (ends-before w s s′ (b .live) (b′ .live) l) in
-      omega (arith, b .high, b′ .low, add-mul s (entry t s .count) (g .size))
+      let m = mul-le-mul-right (g .«block_size») (ends-before w s s′ (b .live) (b′ .live) l) in
+      omega (arith, b .high, b′ .low, add-mul s (entry t s .count) (g .«block_size»))
 
   apart : (s s′ : ℕ) → s ≢ s′ → ByteOf g t s p → ByteOf g t s′ p → ⊥
   apart s s′ d b b′ = go (ltb s s′) refl

@@ -25,11 +25,11 @@ refusals e c d = go (effect e c) d
 
 moved-numbers : {e e′ : End} {d : RunChange} → EndChange e d e′ → SameNumbers e e′
 unfolding changed
-moved-numbers stays = record { initiator = refl; align = refl; tx = refl; rx = refl }
-moved-numbers (writes w h) = record { initiator = refl; align = refl; tx = refl; rx = refl }
-moved-numbers (reads r h) = record { initiator = refl; align = refl; tx = refl; rx = refl }
-moved-numbers (sends ps h q) = record { initiator = refl; align = refl; tx = refl; rx = refl }
-moved-numbers (keeps ps h q) = record { initiator = refl; align = refl; tx = refl; rx = refl }
+moved-numbers stays = record { initiator = refl; alignment = refl; tx = refl; rx = refl }
+moved-numbers (writes w h) = record { initiator = refl; alignment = refl; tx = refl; rx = refl }
+moved-numbers (reads r h) = record { initiator = refl; alignment = refl; tx = refl; rx = refl }
+moved-numbers (sends ps h q) = record { initiator = refl; alignment = refl; tx = refl; rx = refl }
+moved-numbers (keeps ps h q) = record { initiator = refl; alignment = refl; tx = refl; rx = refl }
 
 pub numbers-stay : NumbersStay
 numbers-stay e c = go (effect e c)

@@ -46,12 +46,12 @@ number-pulled : (e : End) (ws bs : List (ℕ × ℕ)) (a : Answer) → pullOutco
 number-pulled e ws bs (refused n) = refl
 number-pulled e ws bs (accepted k i) = refl
 
-pub pull-answer : (e : End) (n b : ℕ) (r : List ℕ) → answer (pullRule e n b) r ≡ pick (whole e (e .rx) n) (pulled e (answer (ringPull n (ringOf (e .align) (e .rx)) (e .read) b) r)) (ringRefused e 6)
+pub pull-answer : (e : End) (n b : ℕ) (r : List ℕ) → answer (pullRule e n b) r ≡ pick (whole e (e .rx) n) (pulled e (answer (ringPull n (ringOf (e .alignment) (e .rx)) (e .read) b) r)) (ringRefused e 6)
 unfolding pullRule
 pull-answer e n b r = simp (answer-unless, answer-andThen)
 
 -- the tree, with the test that the slice is whole apart
-pull-asks : (e : End) (n b : ℕ) (r : List ℕ) → positionsRead (pullRule e n b) r ≡ pick (whole e (e .rx) n) (positionsRead (ringPull n (ringOf (e .align) (e .rx)) (e .read) b) r) []
+pull-asks : (e : End) (n b : ℕ) (r : List ℕ) → positionsRead (pullRule e n b) r ≡ pick (whole e (e .rx) n) (positionsRead (ringPull n (ringOf (e .alignment) (e .rx)) (e .read) b) r) []
 unfolding pullRule
 pull-asks e n b r = simp (positionsRead-unless, positionsRead-map)
 
@@ -64,8 +64,8 @@ pull-reads : (e : End) (r b : List ℕ) → positionsRead (rule e (pull r b)) r 
 unfolding rule lent step reading
 pull-reads e r b =
     rw (pull-answer e (length r) (length b) r, pull-asks e (length r) (length b) r)
-    (pull-cases e (whole e (e .rx) (length r)) (ringOf (e .align) (e .rx)) (e .read) (length b) r _ (answer (ringPull (length r) (ringOf (e .align) (e .rx)) (e .read) (length b)) r)
-    (pull-reads-what-01-lists (length r) (ringOf (e .align) (e .rx)) (e .read) (length b) r))
+    (pull-cases e (whole e (e .rx) (length r)) (ringOf (e .alignment) (e .rx)) (e .read) (length b) r _ (answer (ringPull (length r) (ringOf (e .alignment) (e .rx)) (e .read) (length b)) r)
+    (pull-reads-what-01-lists (length r) (ringOf (e .alignment) (e .rx)) (e .read) (length b) r))
 
 -- kind 0
 data-cases : (a b c f u : Bool) (H : List ℕ) (n : ℕ) → n ≡ pick a (pick b (pick c (pick f (pick u 0 18) 17) 16) 15) 14 →
@@ -85,7 +85,7 @@ data-asks : (e : End) (a b : ℕ) (r : List ℕ) → positionsRead (dataRule e a
 unfolding dataRule
 data-asks e a b r =
     (simp (positionsRead-guard, pick-nil))
-    ∙ data-cases (leb a 0xFD) (someEndpoint (boundAt a) (e .endpoints)) (ltb b (e .rx .count)) (fitsArea (e .rx) b (sizeIn e b r)) (areFree (e .held) (e .rx) b (sizeIn e b r)) (headerAt (e .rx) b)
+    ∙ data-cases (leb a 0xFD) (someEndpoint (boundAt a) (e .endpoints)) (ltb b (e .rx .«block_count»)) (fitsArea (e .rx) b (sizeIn e b r)) (areFree (e .held) (e .rx) b (sizeIn e b r)) (headerAt (e .rx) b)
     (answer (dataRule e a b) r .number) (simp (number-guard, answer-readEach))
 
 -- kind 2: its last numbers are none of the checks before the name
@@ -147,12 +147,12 @@ bound-asks : (e : End) (a b : ℕ) (r : List ℕ) → positionsRead (boundRule e
 unfolding boundRule boundSized
 bound-asks e a b r =
     let k : ℕ = sizeIn e b r in
-    let f : List ℕ → Outcome = boundNamed e a b (blocksFor (e .rx .size) k) in
+    let f : List ℕ → Outcome = boundNamed e a b (blocksFor (e .rx .«block_size») k) in
     (simp (positionsRead-guard, name-asks))
-    ∙ bound-cases (not (e .initiator)) (leb a 0xFD) (ltb b (e .rx .count)) (fitsArea (e .rx) b k) (areFree (e .held) (e .rx) b k) (headerAt (e .rx) b) (zeroEnded (min k 32) (contentAt e b) r)
+    ∙ bound-cases (not (e .initiator)) (leb a 0xFD) (ltb b (e .rx .«block_count»)) (fitsArea (e .rx) b k) (areFree (e .held) (e .rx) b k) (headerAt (e .rx) b) (zeroEnded (min k 32) (contentAt e b) r)
     (answer (upToZero e (min k 32) (contentAt e b) (λ cs. gives (f cs))) r .number)
     (answer (boundRule e a b) r .number)
-    (name-late e (min k 32) (contentAt e b) f r (named-late e a b (blocksFor (e .rx .size) k)))
+    (name-late e (min k 32) (contentAt e b) f r (named-late e a b (blocksFor (e .rx .«block_size») k)))
     (simp (number-guard, answer-readEach))
 
 decoded-reads : (e : End) (w : Bool) (l : Control) (r : List ℕ) → positionsRead (guard w 6 e (decodedRule e l)) r ≡ arrivalReads e r (answer (guard w 6 e (decodedRule e l)) r .number) l

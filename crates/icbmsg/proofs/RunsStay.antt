@@ -80,7 +80,7 @@ sent-kept o b (run-taken u s′ n a k su g f h m) s l d i r = kept-by-taking o b
 sent-kept o b (run-freed s′ l′) s l d i r = kept-by-freeing o b s l i r s′ l′ (λ q. d (refl, q))
 sent-kept o b (run-trimmed u s′ n a k l′ su g h m) s l d i r = kept-by-trimming o b s l i r s′ l′ (λ q. d (refl, q)) u n a k h m
 
-held-kept : {g : Region} {t t′ : List Entry} {bs bs′ : List Binding} {x : RunChange} → WellFormed (g .count) (heldRun g) t → Stored t bs → g .count ≤ 256 → HeldChange g t bs x t′ bs′ →
+held-kept : {g : Region} {t t′ : List Entry} {bs bs′ : List Binding} {x : RunChange} → WellFormed (g .«block_count») (heldRun g) t → Stored t bs → g .«block_count» ≤ 256 → HeldChange g t bs x t′ bs′ →
     (s : ℕ) → Live t s → (Touched receive s x → ⊥) → (i : ℕ) → InRun t s i → entry t′ i ≡ entry t i
 held-kept o w b as-was s l d i r = refl
 held-kept o w b (receives s′ n a k h f m x) s l d i r = kept-by-taking o b s l i r _ s′ n a k f m x
@@ -134,7 +134,7 @@ runs-stay-until-touched e x d s (c ∷ cs) l k i r =
 
 -- what an accepted outcome of a send says
 record Trims (e : End) (s a k : ℕ) (o : Outcome) : Type 0 where
-  trims-to : o .number ≡ 0 → (blocksFor (e .tx .size) k ≤ entry (e .sent) s .count) × (entry (o .next .sent) s ≡ runEntry SentData (blocksFor (e .tx .size) k) a k)
+  trims-to : o .number ≡ 0 → (blocksFor (e .tx .«block_size») k ≤ entry (e .sent) s .count) × (entry (o .next .sent) s ≡ runEntry SentData (blocksFor (e .tx .«block_size») k) a k)
 
 tested : {e : End} {s a k : ℕ} {o : Outcome} (b : Bool) (n : ℕ) → 1 ≤ n → (b ≡ true → Trims e s a k o) → Trims e s a k (check b n e o)
 tested true n l t = t refl
@@ -144,18 +144,18 @@ send-trimmed : (e : End) → Separate e → (n s a k : ℕ) → Trims e s a k (s
 unfolding sendOf changed
 send-trimmed e w n s a k =
     tested (whole e (e .tx) n) 6 (omega arith) λ b.
-    tested (starts Reserved (e .tx .count) (e .sent) s) 25 (omega arith) λ h.
+    tested (starts Reserved (e .tx .«block_count») (e .sent) s) 25 (omega arith) λ h.
     tested (someEndpoint (boundAt a) (e .endpoints)) 15 (omega arith) λ _.
-    tested (leb (k + 4) (entry (e .sent) s .count * e .tx .size)) 23 (omega arith) λ f.
+    tested (leb (k + 4) (entry (e .sent) s .count * e .tx .«block_size»)) 23 (omega arith) λ f.
     let o = whole-open e (e .tx) n b in
     let z = sound e o in
-    let few : e .tx .count ≤ 256 = omega (arith, leb-true) in
+    let few : e .tx .«block_count» ≤ 256 = omega (arith, leb-true) in
     let p = size-pos e o .0 in
-    let r = run-of Reserved (e .tx .count) (e .sent) s h in
+    let r = run-of Reserved (e .tx .«block_count») (e .sent) s h in
     let l = live r refl in
-    let m = blocks-least (e .tx .size) k (entry (e .sent) s .count) (leb-true (k + 4) (entry (e .sent) s .count * e .tx .size) f) p in
-    let one = blocks-one (e .tx .size) k p in
-    record { trims-to = λ _. (m, first-entry (taken-view (free-law (w .sent) few s l) few SentData s (blocksFor (e .tx .size) k) a k one (omega (arith, r .ends)) s) one) }
+    let m = blocks-least (e .tx .«block_size») k (entry (e .sent) s .count) (leb-true (k + 4) (entry (e .sent) s .count * e .tx .«block_size») f) p in
+    let one = blocks-one (e .tx .«block_size») k p in
+    record { trims-to = λ _. (m, first-entry (taken-view (free-law (w .sent) few s l) few SentData s (blocksFor (e .tx .«block_size») k) a k one (omega (arith, r .ends)) s) one) }
 
 pub send-trims : SendTrims
 unfolding step rule

@@ -149,7 +149,7 @@ turned {t = t} o b (run-taken u s n a k su g f l m) = take-law o b u s n a k su 
 turned o b (run-freed s l) = free-law o b s l
 turned o b (run-trimmed u s n a k l su g h m) = trim-law o b u s n a k l su g h m
 
-kept-table : {g : Region} {t t′ : List Entry} {bs bs′ : List Binding} {d : RunChange} → WellFormed (g .count) (heldRun g) t → Stored t bs → g .count ≤ 256 → HeldChange g t bs d t′ bs′ → WellFormed (g .count) (heldRun g) t′
+kept-table : {g : Region} {t t′ : List Entry} {bs bs′ : List Binding} {d : RunChange} → WellFormed (g .«block_count») (heldRun g) t → Stored t bs → g .«block_count» ≤ 256 → HeldChange g t bs d t′ bs′ → WellFormed (g .«block_count») (heldRun g) t′
 kept-table o w b as-was = o
 kept-table {t = t} o w b (receives s n a k h f l m) = take-law o b ReceivedData s n a k refl h (λ i p q. free-at t s n i f p q) l m
 kept-table o w b (finishes s h) = free-law o b s (rw h)
@@ -171,7 +171,7 @@ not-data {x = x} (its-first e) d h = absurd (differ (x .usage) d (rw e at h))
 not-data (its-later p q e) d h = absurd (clash (stored-live (rw e at h)) refl refl)
 not-data (apart p e) d h = e
 
-kept-stored : {g : Region} {t t′ : List Entry} {bs bs′ : List Binding} {d : RunChange} → WellFormed (g .count) (heldRun g) t → Stored t bs → g .count ≤ 256 → HeldChange g t bs d t′ bs′ → Stored t′ bs′
+kept-stored : {g : Region} {t t′ : List Entry} {bs bs′ : List Binding} {d : RunChange} → WellFormed (g .«block_count») (heldRun g) t → Stored t bs → g .«block_count» ≤ 256 → HeldChange g t bs d t′ bs′ → Stored t′ bs′
 kept-stored o w b as-was = w
 kept-stored {t = t} o w b (receives s n a k h f l m) =
     let v = taken-view o b ReceivedData s n a k l m in
@@ -203,7 +203,7 @@ moved {e} p (sends ps h q) w =
     record { sent = turned (w .sent) (omega (arith, leb-true)) h; held = w .held; stored = w .stored; eight = q ∙ w .eight }
 moved {e} p (keeps ps h q) w =
     let z = sound e p in
-    let b : e .rx .count ≤ 256 = omega (arith, leb-true) in
+    let b : e .rx .«block_count» ≤ 256 = omega (arith, leb-true) in
     record { sent = w .sent; held = kept-table (w .held) (w .stored) b h; stored = kept-stored (w .held) (w .stored) b h; eight = q ∙ w .eight }
 
 -- every call keeps it, whatever bytes are lent
@@ -233,8 +233,8 @@ fresh-stored n m q =
 pub fresh-separate : (i : Bool) (a : ℕ) (g h : Region) → Separate (fresh i a g h)
 fresh-separate i a g h =
     record {
-      sent = fresh-well-formed (g .count) (sentRun g);
-      held = fresh-well-formed (h .count) (heldRun h);
+      sent = fresh-well-formed (g .«block_count») (sentRun g);
+      held = fresh-well-formed (h .«block_count») (heldRun h);
       stored = fresh-stored 256 8 refl;
       eight = length-replicate 8 noEndpoint;
     }
@@ -257,7 +257,7 @@ how-opened o = go (eqb (txLayout o .number) 0) (eqb (rxLayout o .number) 0) (leb
 
 opened-separate : {o : Opening} {x : Outcome} → Opens o x → Separate (x .next)
 opened-separate {o} (opens p q) =
-    fresh-separate (ltb (o .rx .begin) (o .tx .begin)) (o .align) (region (o .tx) (txLayout o)) (region (o .rx) (rxLayout o))
+    fresh-separate (ltb (o .rx .begin) (o .tx .begin)) (o .alignment) (region (o .tx) (txLayout o)) (region (o .rx) (rxLayout o))
 opened-separate (shuts n h) = fresh-separate false 0 noRegion noRegion
 
 -- ---- the theorem

@@ -71,13 +71,13 @@ asked h = record { area = h .area; tx = h .tx; rx = h .rx; buffer = h .buffer }
 
 -- ---- the calls on the rings
 
-write-in : {t : ℕ} (e : End) (w : Bool) (ws : List (ℕ × ℕ)) (a : Answer) → InRing (ringOf (e .align) (e .tx)) ws × Inside t ws →
+write-in : {t : ℕ} (e : End) (w : Bool) (ws : List (ℕ × ℕ)) (a : Answer) → InRing (ringOf (e .alignment) (e .tx)) ws × Inside t ws →
     WritesIn e (λ _. tx-ring) t 0 0 (pick w (pushOutcome e ws a) (ringRefused e 6))
 write-in e true ws (ringNo n) h = quiet
 write-in e true ws (ringYes k i) h = record { area = (h .0, refl); tx = h .1; rx = tt; buffer = tt }
 write-in e false ws a h = quiet
 
-read-in : {r b : ℕ} (e : End) (w : Bool) (ws bs : List (ℕ × ℕ)) (a : Answer) → InRing (ringOf (e .align) (e .rx)) ws × Inside r ws → Inside b bs →
+read-in : {r b : ℕ} (e : End) (w : Bool) (ws bs : List (ℕ × ℕ)) (a : Answer) → InRing (ringOf (e .alignment) (e .rx)) ws × Inside r ws → Inside b bs →
     WritesIn e (λ _. rx-ring) 0 r b (pick w (pullOutcome e ws bs a) (ringRefused e 6))
 read-in e true ws bs (ringNo n) h k = quiet
 read-in e true ws bs (ringYes m i) h k = record { area = (refl, h .0); tx = tt; rx = h .1; buffer = k }
@@ -85,7 +85,7 @@ read-in e false ws bs a h k = quiet
 
 pull-in : (e : End) (r : List ℕ) (b : ℕ) → WritesIn e (λ _. rx-ring) 0 (length r) b (answer (pullRule e (length r) b) r)
 pull-in e r b =
-    let g : Ring = ringOf (e .align) (e .rx) in
+    let g : Ring = ringOf (e .alignment) (e .rx) in
     let o : RingOutcome = answer (ringPull (length r) g (e .read) b) r in
     rw (pull-answer e (length r) b r)
     (read-in e (whole e (e .rx) (length r)) (o .region) (o .buffer) (o .answer)
@@ -94,31 +94,31 @@ pull-in e r b =
 -- ---- the calls that write into a block
 
 -- the blocks lie in the region, and a whole slice is as long as it
-blocks-inside : (e : End) (n : ℕ) → whole e (e .tx) n ≡ true → e .tx .blocks + e .tx .count * e .tx .size ≤ n
+blocks-inside : (e : End) (n : ℕ) → whole e (e .tx) n ≡ true → e .tx .«blocks_offset» + e .tx .«block_count» * e .tx .«block_size» ≤ n
 blocks-inside e n w =
     let z = sound e (whole-open e (e .tx) n w) in
-    let q = both (isOpen e) (eqb n (e .tx .bytes)) w in
+    let q = both (isOpen e) (eqb n (e .tx .length)) w in
     omega (arith, leb-true, eqb-true)
 
 -- bs goes to the begin of the n blocks at s, which are a run of the area, and is no longer than these
-run-in : (e : End) (l s n : ℕ) (bs : List ℕ) → whole e (e .tx) l ≡ true → s + n ≤ e .tx .count → length bs ≤ n * e .tx .size →
+run-in : (e : End) (l s n : ℕ) (bs : List ℕ) → whole e (e .tx) l ≡ true → s + n ≤ e .tx .«block_count» → length bs ≤ n * e .tx .«block_size» →
     InArea e (own-run s n) (writes (straight (blockAt (e .tx) s)) bs) [] × Inside l (writes (straight (blockAt (e .tx) s)) bs)
 run-in e l s n bs w h f =
     let p : ℕ = blockAt (e .tx) s in
-    let k : Within p (p + n * e .tx .size) (writes (straight p) bs) = within-straight p (p + n * e .tx .size) p bs (omega arith) (omega arith) in
-    ((k, refl), within-wider p (p + n * e .tx .size) 0 l (writes (straight p) bs) (omega arith) (omega (arith, blocks-inside e l w, run-ends (e .tx) s n h)) k)
+    let k : Within p (p + n * e .tx .«block_size») (writes (straight p) bs) = within-straight p (p + n * e .tx .«block_size») p bs (omega arith) (omega arith) in
+    ((k, refl), within-wider p (p + n * e .tx .«block_size») 0 l (writes (straight p) bs) (omega arith) (omega (arith, blocks-inside e l w, run-ends (e .tx) s n h)) k)
 
 -- the header
 send-in : (e : End) (n s a k : ℕ) → WritesIn e (λ _. own-run s (need e k)) n 0 0 (sendOf e n s a k)
 unfolding sendOf littleEndian
 send-in e n s a k =
     checked (whole e (e .tx) n) 6 e λ w.
-    checked (starts Reserved (e .tx .count) (e .sent) s) 25 e λ h.
+    checked (starts Reserved (e .tx .«block_count») (e .sent) s) 25 e λ h.
     checked (someEndpoint (boundAt a) (e .endpoints)) 15 e λ _.
-    checked (leb (k + 4) (entry (e .sent) s .count * e .tx .size)) 23 e λ f.
+    checked (leb (k + 4) (entry (e .sent) s .count * e .tx .«block_size»)) 23 e λ f.
     let p = size-pos e (whole-open e (e .tx) n w) .0 in
-    let m = blocks-least (e .tx .size) k (entry (e .sent) s .count) (leb-true _ _ f) p in
-    let z = run-in e n s (need e k) (littleEndian 4 k) w (omega (arith, run-of Reserved (e .tx .count) (e .sent) s h .ends)) (omega (arith, blocks-hold (e .tx .size) k p)) in
+    let m = blocks-least (e .tx .«block_size») k (entry (e .sent) s .count) (leb-true _ _ f) p in
+    let z = run-in e n s (need e k) (littleEndian 4 k) w (omega (arith, run-of Reserved (e .tx .«block_count») (e .sent) s h .ends)) (omega (arith, blocks-hold (e .tx .«block_size») k p)) in
     record { area = z .0; tx = z .1; rx = tt; buffer = tt }
 
 -- the header, the name and a zero
@@ -126,10 +126,10 @@ initiates-in : (e : End) (l : ℕ) (n : List ℕ) (i : ℕ) → whole e (e .tx) 
 unfolding initiates freeRun littleEndian
 initiates-in e l n i w =
     let k : ℕ = length n + 1 in
-    checked (leb (need e k) (e .tx .count)) 23 e λ _.
-    found 24 e (freeRun (e .tx .count) (e .sent) (need e k)) λ s q.
-    let z = run-in e l s (need e k) (littleEndian 4 k ++ n ++ (0 ∷ [])) w (lowest-at (e .tx .count) (e .sent) 0 (need e k) (e .tx .count) s q .room)
-    (simp length-append (omega (arith, blocks-hold (e .tx .size) k (size-pos e (whole-open e (e .tx) l w) .0)))) in
+    checked (leb (need e k) (e .tx .«block_count»)) 23 e λ _.
+    found 24 e (freeRun (e .tx .«block_count») (e .sent) (need e k)) λ s q.
+    let z = run-in e l s (need e k) (littleEndian 4 k ++ n ++ (0 ∷ [])) w (lowest-at (e .tx .«block_count») (e .sent) 0 (need e k) (e .tx .«block_count») s q .room)
+    (simp length-append (omega (arith, blocks-hold (e .tx .«block_size») k (size-pos e (whole-open e (e .tx) l w) .0)))) in
     record { area = z .0; tx = z .1; rx = tt; buffer = tt }
 
 followed-in : {l : ℕ} (e : End) (n : List ℕ) (i : ℕ) (q : Search) → WritesIn e (registerArea e n) l 0 0 (followed e n i q)
@@ -173,11 +173,11 @@ view-in e n s = search (checked, quiet)
 pub writes-stay-inside : WritesInside
 unfolding step rule lent areaOf startOf pushOf reserveOf dropOf doneOf roomQuestion viewQuestion arrivalRule
 writes-stay-inside e (start tx) =
-    let o : RingOutcome = ringStart (length tx) (ringOf (e .align) (e .tx)) in
-    write-in e (whole e (e .tx) (length tx)) (o .region) (o .answer) (writes-inside .start (length tx) (ringOf (e .align) (e .tx)))
+    let o : RingOutcome = ringStart (length tx) (ringOf (e .alignment) (e .tx)) in
+    write-in e (whole e (e .tx) (length tx)) (o .region) (o .answer) (writes-inside .start (length tx) (ringOf (e .alignment) (e .tx)))
 writes-stay-inside e (push tx c) =
-    let o : RingOutcome = ringPush tx (ringOf (e .align) (e .tx)) (e .write) c in
-    write-in e (whole e (e .tx) (length tx)) (o .region) (o .answer) (writes-inside .push tx (ringOf (e .align) (e .tx)) (e .write) c)
+    let o : RingOutcome = ringPush tx (ringOf (e .alignment) (e .tx)) (e .write) c in
+    write-in e (whole e (e .tx) (length tx)) (o .region) (o .answer) (writes-inside .push tx (ringOf (e .alignment) (e .tx)) (e .write) c)
 writes-stay-inside e (pull rx b) = pull-in e rx (length b)
 writes-stay-inside e (reserve k) = search (checked, found, quiet)
 writes-stay-inside e (room tx s) = room-in e (length tx) s

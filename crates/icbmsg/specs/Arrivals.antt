@@ -41,35 +41,35 @@ sizeAt g b r = fromLittleEndian (bytesAt r (headerAt g b))
 
 -- 17: K + 4 ends with the last block. 18: its blocks are free
 abbrev pub fitsArea : Region → ℕ → ℕ → Bool
-fitsArea g b k = leb (k + 4) ((g .count - b) * g .size)
+fitsArea g b k = leb (k + 4) ((g .«block_count» - b) * g .«block_size»)
 
 abbrev pub areFree : List Entry → Region → ℕ → ℕ → Bool
-areFree t g b k = allFree t b (blocksFor (g .size) k)
+areFree t g b k = allFree t b (blocksFor (g .«block_size») k)
 
 -- kind 0: "14, 15, 16, 17, 18"; "start, count and K recorded". "The size is read once, at arrival"
 unfoldable pub dataRule : End → ℕ → ℕ → Rule
 dataRule e a b =
     guard (leb a 0xFD) 14 e
     (guard (someEndpoint (boundAt a) (e .endpoints)) 15 e
-    (guard (ltb b (e .rx .count)) 16 e
+    (guard (ltb b (e .rx .«block_count»)) 16 e
     (readEach (headerAt (e .rx) b) (λ h. let k : ℕ = fromLittleEndian h in
     guard (fitsArea (e .rx) b k) 17 e
     (guard (areFree (e .held) (e .rx) b k) 18 e
-    (gives (accepted (withHeld e (taken (e .held) ReceivedData b (blocksFor (e .rx .size) k) a k)) (delivery a b k))))))))
+    (gives (accepted (withHeld e (taken (e .held) ReceivedData b (blocksFor (e .rx .«block_size») k) a k)) (delivery a b k))))))))
 
 -- kind 1: "16, 25"; "frees a sent data message". "A partner's release frees the count recorded privately"
 unfoldable pub releaseOf : End → ℕ → Outcome
 releaseOf e b =
-    check (ltb b (e .tx .count)) 16 e
-    (check (starts SentData (e .tx .count) (e .sent) b) 25 e
+    check (ltb b (e .tx .«block_count»)) 16 e
+    (check (starts SentData (e .tx .«block_count») (e .sent) b) 25 e
     (accepted (withSent e (freed (e .sent) b (entry (e .sent) b .count))) nothing))
 
 -- kind 3: "14, 16, 25"; "frees a sent binding of that address; its endpoint is bound"
 unfoldable pub releasedBoundOf : End → ℕ → ℕ → Outcome
 releasedBoundOf e a b =
     check (leb a 0xFD) 14 e
-    (check (ltb b (e .tx .count)) 16 e
-    (check (starts SentBinding (e .tx .count) (e .sent) b && eqb (entry (e .sent) b .address) a) 25 e
+    (check (ltb b (e .tx .«block_count»)) 16 e
+    (check (starts SentBinding (e .tx .«block_count») (e .sent) b && eqb (entry (e .sent) b .address) a) 25 e
     (accepted
     (changed e (e .write) (e .read) (freed (e .sent) b (entry (e .sent) b .count)) (e .held)
     (boundNow (e .endpoints) a (endpointAt (waitingAt a) (e .endpoints))) (e .bindings))
@@ -109,14 +109,14 @@ unfoldable pub boundSized : End → ℕ → ℕ → ℕ → Rule
 boundSized e a b k =
     guard (fitsArea (e .rx) b k) 17 e
     (guard (areFree (e .held) (e .rx) b k) 18 e
-    (upToZero e (min k 32) (blockAt (e .rx) b + 4) (λ name. gives (boundNamed e a b (blocksFor (e .rx .size) k) name))))
+    (upToZero e (min k 32) (blockAt (e .rx) b + 4) (λ name. gives (boundNamed e a b (blocksFor (e .rx .«block_size») k) name))))
 
 -- kind 2: "19, 14, 16, 17, 18, 20, 21, 22"
 unfoldable pub boundRule : End → ℕ → ℕ → Rule
 boundRule e a b =
     guard (not (e .initiator)) 19 e
     (guard (leb a 0xFD) 14 e
-    (guard (ltb b (e .rx .count)) 16 e
+    (guard (ltb b (e .rx .«block_count»)) 16 e
     (readEach (headerAt (e .rx) b) (λ h. boundSized e a b (fromLittleEndian h)))))
 
 abbrev pub decodedRule : End → Control → Rule

@@ -12,11 +12,11 @@ use Rattle.icbmsg.specs.End.{End}
 
 -- the end that transmits in the region of 16 blocks; with its receive region below, it is an initiator
 abbrev pub initiator : End
-initiator = opening (record { align = 32; tx = record { begin = 0x20070000; end = 0x20070800; blocks = 16 }; rx = record { begin = 0x20060000; end = 0x20060800; blocks = 32 } }) .next
+initiator = opening (record { alignment = 32; tx = record { begin = 0x20070000; end = 0x20070800; «block_count» = 16 }; rx = record { begin = 0x20060000; end = 0x20060800; «block_count» = 32 } }) .next
 
 -- its partner
 abbrev pub follower : End
-follower = opening (record { align = 32; tx = record { begin = 0x20060000; end = 0x20060800; blocks = 32 }; rx = record { begin = 0x20070000; end = 0x20070800; blocks = 16 } }) .next
+follower = opening (record { alignment = 32; tx = record { begin = 0x20060000; end = 0x20060800; «block_count» = 32 }; rx = record { begin = 0x20070000; end = 0x20070800; «block_count» = 16 } }) .next
 
 -- the name `example`, and a region of zeros
 abbrev pub example : List ℕ

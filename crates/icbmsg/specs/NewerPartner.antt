@@ -20,16 +20,16 @@ use Rattle.icbmsg.specs.End.{End}
 -- A binding message in block b that fits, zero-ended at byte z, and the same with bytes after it: K grows, its
 -- blocks do not, and its own bytes stay.
 pub record Grown (e : End) (b : ℕ) (r r′ : List ℕ) : Type 0 where
-  pub lent : length r ≡ e .rx .bytes
-  pub lent′ : length r′ ≡ e .rx .bytes
-  pub range : b < e .rx .count
-  pub fitting : sizeIn e b r + 4 ≤ (e .rx .count - b) * e .rx .size
+  pub lent : length r ≡ e .rx .length
+  pub lent′ : length r′ ≡ e .rx .length
+  pub range : b < e .rx .«block_count»
+  pub fitting : sizeIn e b r + 4 ≤ (e .rx .«block_count» - b) * e .rx .«block_size»
   pub zeroAt : ℕ
   pub inside : zeroAt < sizeIn e b r
   pub early : zeroAt < 32
   pub ended : getD r (contentAt e b + zeroAt) 0 ≡ 0
   pub larger : sizeIn e b r ≤ sizeIn e b r′
-  pub blocks : blocksFor (e .rx .size) (sizeIn e b r′) ≡ blocksFor (e .rx .size) (sizeIn e b r)
+  pub blocks : blocksFor (e .rx .«block_size») (sizeIn e b r′) ≡ blocksFor (e .rx .«block_size») (sizeIn e b r)
   pub stays : (i : ℕ) → i < sizeIn e b r → getD r′ (contentAt e b + i) 0 ≡ getD r (contentAt e b + i) 0
 
 -- A call on the end e and the same call from a newer partner. Any number of changes at once is `both`.
@@ -44,7 +44,7 @@ pub data Change (e : End) : Call → Call → Type 0 where
 
 -- an arrival of unknown kind, its region whole (a closed end has no region)
 pub data Unknown (e : End) : Call → Type 0 where
-  unknown-kind : {rx m : List ℕ} (k : ℕ) → 3 < k → (isOpen e ≡ true → length rx ≡ e .rx .bytes) → Unknown e (arrival rx (k ∷ m))
+  unknown-kind : {rx m : List ℕ} (k : ℕ) → 3 < k → (isOpen e ≡ true → length rx ≡ e .rx .length) → Unknown e (arrival rx (k ∷ m))
 
 -- a call kept, with the one of the second run, or a call put in
 pub data Item : Type 0 where

@@ -27,9 +27,9 @@ use Rattle.icbmsg.specs.End.{End}
 pub record InMessage (g : Region) (t : List Entry) (s : ℕ) (o : Outcome) : Type 0 where
   pub live : Live t s
   pub after-header : blockAt g s + 4 ≤ o .begin
-  pub before-end : o .begin + o .size ≤ blockAt g s + entry t s .count * g .size
-  pub first-block : g .blocks ≤ o .begin
-  pub last-block : o .begin + o .size ≤ g .blocks + g .count * g .size
+  pub before-end : o .begin + o .size ≤ blockAt g s + entry t s .count * g .«block_size»
+  pub first-block : g .«blocks_offset» ≤ o .begin
+  pub last-block : o .begin + o .size ≤ g .«blocks_offset» + g .«block_count» * g .«block_size»
 
 abbrev pub PartIn : End → Part → Outcome → Type 0
 PartIn e no-part o = (o .begin ≡ 0) × (o .size ≡ 0)
@@ -88,9 +88,9 @@ areaOf e (askView s n) g = no-area
 -- what is written to the transmit and to the receive region lies there
 abbrev pub InArea : End → Area → List (ℕ × ℕ) → List (ℕ × ℕ) → Type 0
 InArea e no-area ts rs = (ts ≡ []) × (rs ≡ [])
-InArea e tx-ring ts rs = InRing (ringOf (e .align) (e .tx)) ts × (rs ≡ [])
-InArea e rx-ring ts rs = (ts ≡ []) × InRing (ringOf (e .align) (e .rx)) rs
-InArea e (own-run s n) ts rs = Within (blockAt (e .tx) s) (blockAt (e .tx) s + n * e .tx .size) ts × (rs ≡ [])
+InArea e tx-ring ts rs = InRing (ringOf (e .alignment) (e .tx)) ts × (rs ≡ [])
+InArea e rx-ring ts rs = (ts ≡ []) × InRing (ringOf (e .alignment) (e .rx)) rs
+InArea e (own-run s n) ts rs = Within (blockAt (e .tx) s) (blockAt (e .tx) s + n * e .tx .«block_size») ts × (rs ≡ [])
 
 -- f tells the area by what comes with the answer; the slices that are lent have t, r and b bytes
 pub record WritesIn (e : End) (f : Given → Area) (t r b : ℕ) (o : Outcome) : Type 0 where

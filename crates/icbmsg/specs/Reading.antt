@@ -41,7 +41,7 @@ arrivalReads e r n (BindingReleased a b) = []
 unfoldable pub reading : End → Call → List ℕ
 reading e (start tx) = []
 reading e (push tx c) = []
-reading e (pull r b) = pullReads (ringOf (e .align) (e .rx)) (e .read) (length b) r (step e (pull r b) .number)
+reading e (pull r b) = pullReads (ringOf (e .alignment) (e .rx)) (e .read) (length b) r (step e (pull r b) .number)
 reading e (reserve k) = []
 reading e (room tx s) = []
 reading e (send tx s a k) = []

@@ -57,5 +57,5 @@ registerOf e l n =
     (check (goodName 31 n) 20 e
     (check (not (someEndpoint (registered n) (e .endpoints))) 21 e
     (foundOr 22 e
-    (λ i. pick (e .initiator) (initiates e n i) (followed e n i (bindingAt (holds (e .rx .count) n) (e .bindings))))
+    (λ i. pick (e .initiator) (initiates e n i) (followed e n i (bindingAt (holds (e .rx .«block_count») n) (e .bindings))))
     (endpointAt (at isUnused) (e .endpoints)))))

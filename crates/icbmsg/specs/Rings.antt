@@ -13,7 +13,7 @@ use Rattle.icbmsg.specs.End.{End}
 
 -- the ring of a region at alignment a
 abbrev pub ringOf : ℕ → Region → Ring
-ringOf a g = record { begin = g .base; align = a; size = g .ring }
+ringOf a g = record { offset = g .«ring_offset»; alignment = a; «data_length» = g .«data_length» }
 
 -- what the ring answered on the transmit side: its writes ws, and the end's own write index moved on
 abbrev pub pushOutcome : End → List (ℕ × ℕ) → Answer → Outcome
@@ -32,11 +32,11 @@ abbrev pub pulled : End → RingOutcome → Outcome
 pulled e o = pullOutcome e (o .region) (o .buffer) (o .answer)
 
 unfoldable pub pushOf : End → List ℕ → List ℕ → Outcome
-pushOf e tx c = pick (whole e (e .tx) (length tx)) (pushed e (ringPush tx (ringOf (e .align) (e .tx)) (e .write) c)) (ringRefused e 6)
+pushOf e tx c = pick (whole e (e .tx) (length tx)) (pushed e (ringPush tx (ringOf (e .alignment) (e .tx)) (e .write) c)) (ringRefused e 6)
 
 unfoldable pub startOf : End → ℕ → Outcome
-startOf e n = pick (whole e (e .tx) n) (pushed e (ringStart n (ringOf (e .align) (e .tx)))) (ringRefused e 6)
+startOf e n = pick (whole e (e .tx) n) (pushed e (ringStart n (ringOf (e .alignment) (e .tx)))) (ringRefused e 6)
 
 -- n bytes lent of the receive region, a buffer of b bytes
 unfoldable pub pullRule : End → ℕ → ℕ → Rule
-pullRule e n b = unless (whole e (e .rx) n) (ringRefused e 6) (andThen (ringPull n (ringOf (e .align) (e .rx)) (e .read) b) (λ o. gives (pulled e o)))
+pullRule e n b = unless (whole e (e .rx) n) (ringRefused e 6) (andThen (ringPull n (ringOf (e .alignment) (e .rx)) (e .read) b) (λ o. gives (pulled e o)))

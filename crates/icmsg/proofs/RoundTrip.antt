@@ -17,7 +17,7 @@ use Rattle.icmsg.specs.Ring.{readIndexAt, writeIndexAt, dataAt, from, in
 use Rattle.icmsg.specs.Rules.{accepted, refusal, pushNumber, pushWrites, pushed, pushRule, found, lookRule, takenWrites, pullFound}
 use Rattle.icmsg.specs.Laws.{Sound, after, UnreadKept, RoundTrip}
 use Rattle.icmsg.specs.declared.Ring.{Ring}
-use Rattle.icmsg.proofs.Checks.{HasRoom, used-straight}
+use Rattle.icmsg.proofs.Checks.{HasSpace, used-straight}
 use Rattle.icmsg.proofs.Indexes.{push-passed, push-index, indexes-in-rule, used-back, used-of}
 use Rattle.icmsg.proofs.Pulls.{partner, lengthAt, look-flat, take-flat, past-6}
 
@@ -27,17 +27,17 @@ use Rattle.icmsg.proofs.Pulls.{partner, lengthAt, look-flat, take-flat,
 data-low : (g : Ring) (i j : ℕ) → dataAt g ≤ from g i j
 data-low g i j = omega arith
 
-size-some : {n : ℕ} {g : Ring} {i : ℕ} → Sound n g i → 0 < g .size
+size-some : {n : ℕ} {g : Ring} {i : ℕ} → Sound n g i → 0 < g .«data_length»
 size-some s = omega (arith, s .below)
 
 -- and before the end of the data
-pub data-high : (n : ℕ) (g : Ring) (o i j : ℕ) → Sound n g o → from g i j < dataAt g + g .size
+pub data-high : (n : ℕ) (g : Ring) (o i j : ℕ) → Sound n g o → from g i j < dataAt g + g .«data_length»
 data-high n g o i j s = omega (arith, mod-lt (i + j) (size-some s))
 
 -- the place at the write index w is that at the read index r, as many bytes further on as are used
-pub further-on : (g : Ring) (r w j : ℕ) → r < g .size → w < g .size → from g w j ≡ from g r (used (g .size) r w + j)
+pub further-on : (g : Ring) (r w j : ℕ) → r < g .«data_length» → w < g .«data_length» → from g w j ≡ from g r (used (g .«data_length») r w + j)
 further-on g r w j h k =
-    ap (λ (x : ℕ). from g x j) (sym (used-back (g .size) r w h k)) ∙ wrapped-shift (dataAt g) (g .size) r (used (g .size) r w) j
+    ap (λ (x : ℕ). from g x j) (sym (used-back (g .«data_length») r w h k)) ∙ wrapped-shift (dataAt g) (g .«data_length») r (used (g .«data_length») r w) j
 
 length-packet : (c : List ℕ) → length (packet c) ≡ packetLength (length c)
 unfolding packet packetLength
@@ -53,23 +53,23 @@ abbrev withPacket : List ℕ → Ring → ℕ → List ℕ → List ℕ
 withPacket s g w c = wrote s (writes (from g w) (packet c))
 
 abbrev withIndex : List ℕ → Ring → ℕ → List ℕ → List ℕ
-withIndex s g w c = wrote (withPacket s g w c) (writes (straight (writeIndexAt g)) (littleEndian 4 (behind (g .size) w (length c))))
+withIndex s g w c = wrote (withPacket s g w c) (writes (straight (writeIndexAt g)) (littleEndian 4 (behind (g .«data_length») w (length c))))
 
 after-push : (s : List ℕ) (g : Ring) (w : ℕ) (c : List ℕ) → passed (pushNumber (length s) g (indexAt s (readIndexAt g)) w (length c)) (pushed [] g w c) refusal ≡ pushed [] g w c →
     after s (pushRule s g w c) ≡ withIndex s g w c
 unfolding pushRule pushWrites
 after-push s g w c e = rw e (wrote-append s _ _)
 
-module _ (s : List ℕ) (g : Ring) (w : ℕ) (c : List ℕ) (o : Sound (length s) g w) (short : packetLength (length c) ≤ g .size - 1) where
+module _ (s : List ℕ) (g : Ring) (w : ℕ) (c : List ℕ) (o : Sound (length s) g w) (short : packetLength (length c) ≤ g .«data_length» - 1) where
   -- the packet is read back
   packet-read : bytes (withIndex s g w c) (from g w) (packetLength (length c)) ≡ packet c
   unfolding littleEndian
   packet-read =
       rw (← length-packet c)
-      (bytes-kept (withPacket s g w c) (straight (writeIndexAt g)) (from g w) (littleEndian 4 (behind (g .size) w (length c))) (length (packet c))
+      (bytes-kept (withPacket s g w c) (straight (writeIndexAt g)) (from g w) (littleEndian 4 (behind (g .«data_length») w (length c))) (length (packet c))
       (λ i j _ lt e. omega (arith, e, data-low g w i))
       ∙ bytes-read-back s (from g w) (packet c) (λ j lt. omega (arith, o .inside, data-high (length s) g w w j o))
-      (λ i j lt below e. wrapped-apart (dataAt g) (g .size) w i j lt (omega (arith, length-packet c, o .below)) e))
+      (λ i j lt below e. wrapped-apart (dataAt g) (g .«data_length») w i j lt (omega (arith, length-packet c, o .below)) e))
 
   part : (m k : ℕ) → m + k ≤ packetLength (length c) → bytes (withIndex s g w c) (λ j. from g w (m + j)) k ≡ take k (drop m (packet c))
   part m k h = bytes-part (withIndex s g w c) (from g w) (packetLength (length c)) m k h ∙ ap (λ (l : List ℕ). take k (drop m l)) packet-read
@@ -86,31 +86,31 @@ module _ (s : List ℕ) (g : Ring) (w : ℕ) (c : List ℕ) (o : Sound (length s
   content-read : (m : ℕ) → m ≤ length c → bytes (withIndex s g w c) (from g (w + 4)) m ≡ take m c
   unfolding packet
   content-read m le =
-      bytes-at-same (withIndex s g w c) (from g (w + 4)) (λ j. from g w (4 + j)) m (λ j _. ap (λ (x : ℕ). dataAt g + x % g .size) (add-assoc w 4 j))
+      bytes-at-same (withIndex s g w c) (from g (w + 4)) (λ j. from g w (4 + j)) m (λ j _. ap (λ (x : ℕ). dataAt g + x % g .«data_length») (add-assoc w 4 j))
       ∙ part 4 m (omega (arith, packet-low (length c)))
       ∙ take-append-le m c _ le
 
   -- and the index behind it
-  index-read : g .size < 4294967296 → partner g (withIndex s g w c) ≡ behind (g .size) w (length c)
+  index-read : g .«data_length» < 4294967296 → partner g (withIndex s g w c) ≡ behind (g .«data_length») w (length c)
   unfolding indexAt behind
   index-read small =
-      number-written (withPacket s g w c) (writeIndexAt g) 4 ((w + packetLength (length c)) % g .size)
+      number-written (withPacket s g w c) (writeIndexAt g) 4 ((w + packetLength (length c)) % g .«data_length»)
       (rw (length-wrote s (writes (from g w) (packet c))) (omega (arith, o .inside)))
       (omega (arith, mod-lt (w + packetLength (length c)) (size-some o), small))
 
   -- so a look finds the packet
-  used-by-packet : used (g .size) w (behind (g .size) w (length c)) ≡ packetLength (length c)
+  used-by-packet : used (g .«data_length») w (behind (g .«data_length») w (length c)) ≡ packetLength (length c)
   unfolding behind
-  used-by-packet = used-of (g .size) w (packetLength (length c)) (o .below) (omega (arith, o .below))
+  used-by-packet = used-of (g .«data_length») w (packetLength (length c)) (o .below) (omega (arith, o .below))
 
-  moved-on : behind (g .size) w (length c) ≡ w → ⊥
+  moved-on : behind (g .«data_length») w (length c) ≡ w → ⊥
   moved-on e =
-      let z : used (g .size) w w ≡ packetLength (length c) = rw e at used-by-packet in
-      omega (arith, z, used-straight (g .size) w w (omega arith) (o .below), packet-low (length c))
+      let z : used (g .«data_length») w w ≡ packetLength (length c) = rw e at used-by-packet in
+      omega (arith, z, used-straight (g .«data_length») w w (omega arith) (o .below), packet-low (length c))
 
-  packet-found : g .size < 4294967296 → inRule (g .size) (behind (g .size) w (length c)) ≡ true → answer (lookRule g w) (withIndex s g w c) ≡ found (length c)
+  packet-found : g .«data_length» < 4294967296 → inRule (g .«data_length») (behind (g .«data_length») w (length c)) ≡ true → answer (lookRule g w) (withIndex s g w c) ≡ found (length c)
   packet-found small rule =
-      let i : ℕ = behind (g .size) w (length c) in
+      let i : ℕ = behind (g .«data_length») w (length c) in
       let k : ℕ = packetLength (length c) in
       rw (look-flat g w (withIndex s g w c), index-read small, length-read, rule, ne-eqb i w moved-on, used-by-packet, le-leb k k (omega arith))
 
@@ -126,35 +126,35 @@ unfolding pushRule
 push-and-pull s g w c k i b small h =
     let r : ℕ = indexAt s (readIndexAt g) in
     let p = push-passed (length s) g r w (length c) (pushed [] g w c) k i h in
-    let short : packetLength (length c) ≤ g .size - 1 = omega (arith, p .room .fits) in
-    let e : i ≡ behind (g .size) w (length c) = push-index (length s) g r w [] c k i h in
-    let rule : inRule (g .size) (behind (g .size) w (length c)) ≡ true = rw e at (indexes-in-rule .push s g w c k i h) in
+    let short : packetLength (length c) ≤ g .«data_length» - 1 = omega (arith, p .room .fits) in
+    let e : i ≡ behind (g .«data_length») w (length c) = push-index (length s) g r w [] c k i h in
+    let rule : inRule (g .«data_length») (behind (g .«data_length») w (length c)) ≡ true = rw e at (indexes-in-rule .push s g w c k i h) in
     rw (after-push s g w c (p .is), e)
     (past-6 (length s) g w b (withIndex s g w c) (p .test)
     ∙ ap (λ f. answer (pullFound g w b f) (withIndex s g w c)) (packet-found s g w c (p .sound) short small rule)
     ∙ take-flat g w b (withIndex s g w c) (length c)
-    ∙ ap (λ (l : List ℕ). record { answer = accepted (length c) (behind (g .size) w (length c)); region = takenWrites g w (length c); buffer = writes (straight 0) l })
+    ∙ ap (λ (l : List ℕ). record { answer = accepted (length c) (behind (g .«data_length») w (length c)); region = takenWrites g w (length c); buffer = writes (straight 0) l })
     (content-read s g w c (p .sound) short (min (length c) b) (omega arith) ∙ take-that-fit c b))
 
 -- ---- a push leaves alone what is unread
 
 module _ (s : List ℕ) (g : Ring) (w : ℕ) (c : List ℕ) (o : Sound (length s) g w) where
-  unread-byte : (r : ℕ) → HasRoom (g .size) r w (length c) → (j : ℕ) → j < used (g .size) r w → getD (withIndex s g w c) (from g r j) 0 ≡ getD s (from g r j) 0
+  unread-byte : (r : ℕ) → HasSpace (g .«data_length») r w (length c) → (j : ℕ) → j < used (g .«data_length») r w → getD (withIndex s g w c) (from g r j) 0 ≡ getD s (from g r j) 0
   unfolding littleEndian
   unread-byte r h j lt =
-      byte-kept (withPacket s g w c) (writes (straight (writeIndexAt g)) (littleEndian 4 (behind (g .size) w (length c)))) (from g r j)
-      (outside-writes (straight (writeIndexAt g)) (littleEndian 4 (behind (g .size) w (length c))) (from g r j) (λ i few e. omega (arith, e, data-low g r j)))
+      byte-kept (withPacket s g w c) (writes (straight (writeIndexAt g)) (littleEndian 4 (behind (g .«data_length») w (length c)))) (from g r j)
+      (outside-writes (straight (writeIndexAt g)) (littleEndian 4 (behind (g .«data_length») w (length c))) (from g r j) (λ i few e. omega (arith, e, data-low g r j)))
       ∙ byte-kept s (writes (from g w) (packet c)) (from g r j)
       (outside-writes (from g w) (packet c) (from g r j)
       (λ i l e.
       let f : i < packetLength (length c) = rw (length-packet c) at l in
-      wrapped-apart (dataAt g) (g .size) r j (used (g .size) r w + i) (omega arith) (omega (arith, h .fits, o .below)) (e ∙ further-on g r w i (h .below) (o .below))))
+      wrapped-apart (dataAt g) (g .«data_length») r j (used (g .«data_length») r w + i) (omega arith) (omega (arith, h .fits, o .below)) (e ∙ further-on g r w i (h .below) (o .below))))
 
   partner-kept : indexAt (withIndex s g w c) (readIndexAt g) ≡ indexAt s (readIndexAt g)
   unfolding indexAt littleEndian
   partner-kept =
       ap fromLittleEndian
-      (bytes-kept (withPacket s g w c) (straight (writeIndexAt g)) (straight (readIndexAt g)) (littleEndian 4 (behind (g .size) w (length c))) 4
+      (bytes-kept (withPacket s g w c) (straight (writeIndexAt g)) (straight (readIndexAt g)) (littleEndian 4 (behind (g .«data_length») w (length c))) 4
       (λ i j lt few e. omega (arith, o .header, e))
       ∙ bytes-kept s (from g w) (straight (readIndexAt g)) (packet c) 4 (λ i j lt _ e. omega (arith, o .header, e, data-low g w j)))
 

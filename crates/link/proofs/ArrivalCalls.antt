@@ -43,11 +43,11 @@ pub called-only : (r : Called) (a : Answer) (n : Numbers) (t : List ℕ) (ps : L
 called-only r a n t ps bs h = rw (h .answer, h .endpoints ps, h .bindings bs)
 
 -- a live run of transmit blocks lies in the table
-pub sent-ends : (n : Numbers) (t : List ℕ) (u : Use) (s : ℕ) (z : Entry) → openNumbers (n .align) (n .tx) (n .rx) (n .write) (n .read) ≡ true →
-    starts u (n .tx .count) (tableOf t 0) s ≡ true → z ≡ entry (tableOf t 0) s → s + z .count ≤ 256
+pub sent-ends : (n : Numbers) (t : List ℕ) (u : Use) (s : ℕ) (z : Entry) → openNumbers (n .alignment) (n .tx) (n .rx) (n .write) (n .read) ≡ true →
+    starts u (n .tx .«block_count») (tableOf t 0) s ≡ true → z ≡ entry (tableOf t 0) s → s + z .count ≤ 256
 sent-ends n t u s z h k q =
     let e : End = joined n t [] [] in
-    rw q (omega (arith, run-of u (n .tx .count) (tableOf t 0) s k .ends, open-says e (is-open e _ refl h) .tx .few))
+    rw q (omega (arith, run-of u (n .tx .«block_count») (tableOf t 0) s k .ends, open-says e (is-open e _ refl h) .tx .few))
 
 -- ---- kind 0
 
@@ -67,12 +67,12 @@ module _ (n : Numbers) (t : List ℕ) (ps : List Endpoint) (a b : ℕ) (r : List
 -- ---- kind 1
 
 module _ (n : Numbers) (t : List ℕ) (b : ℕ) (ps : List Endpoint) (bs : List Binding) where
-  pub release-refused : (x : Refusal) → ((e : End) (o : Outcome) → check (ltb b (n .tx .count)) 16 e (check (starts SentData (n .tx .count) (tableOf t 0) b) 25 e o) ≡ refused e (numberOf x)) →
+  pub release-refused : (x : Refusal) → ((e : End) (o : Outcome) → check (ltb b (n .tx .«block_count»)) 16 e (check (starts SentData (n .tx .«block_count») (tableOf t 0) b) 25 e o) ≡ refused e (numberOf x)) →
       refused (joined n t ps bs) (numberOf x) ≡ releaseOf (joined n t ps bs) b
   unfolding releaseOf
   release-refused x h = sym (h (joined n t ps bs) _)
 
-  pub released : (z : Entry) (t′ : List ℕ) → (ltb b (n .tx .count) ≡ true) × (starts SentData (n .tx .count) (tableOf t 0) b ≡ true) × (z ≡ entry (tableOf t 0) b) →
+  pub released : (z : Entry) (t′ : List ℕ) → (ltb b (n .tx .«block_count») ≡ true) × (starts SentData (n .tx .«block_count») (tableOf t 0) b ≡ true) × (z ≡ entry (tableOf t 0) b) →
       Changed t t′ 0 (freed (tableOf t 0) b (z .count)) → accepted (joined n t′ ps bs) nothing ≡ releaseOf (joined n t ps bs) b
   unfolding releaseOf
   released z t′ h c = rw (h .1, h .0, ← (h .2)) (ap (λ (e : End). accepted e nothing) (joined-sent n t t′ (freed (tableOf t 0) b (z .count)) ps bs c))
@@ -84,7 +84,7 @@ module _ (n : Numbers) (t : List ℕ) (ps : List Endpoint) (bs : List Binding) (
   unbind-refused x q = let w = rw q at h in sym w
 
   module _ (z : Entry) (q : r ≡ Run.Live z) where
-    pub unbind-live : (starts SentBinding (n .tx .count) (tableOf t 0) b ≡ true) × (z ≡ entry (tableOf t 0) b)
+    pub unbind-live : (starts SentBinding (n .tx .«block_count») (tableOf t 0) b ≡ true) × (z ≡ entry (tableOf t 0) b)
     unbind-live = let w = rw q at h in (w .1, w .2)
 
     pub unbound : (t′ : List ℕ) (ps′ : List Endpoint) → Changed t t′ 0 (freed (tableOf t 0) b (z .count)) → ps′ ≡ boundNow ps a (endpointAt (waitingAt a) ps) →

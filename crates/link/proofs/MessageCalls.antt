@@ -52,22 +52,22 @@ module _ (n : Numbers) (t : List ℕ) (k : ℕ) (r : Space) (h : ReservesAs r n 
 -- ---- drop and done
 
 module _ (n : Numbers) (t : List ℕ) (s : ℕ) (ps : List Endpoint) (bs : List Binding) (x : Bool) (q : x ≡ isOpen (joined n t ps bs)) where
-  pub drop-refused : (y : Refusal) → ((e : End) (o : Outcome) → check x 6 e (check (starts Reserved (n .tx .count) (tableOf t 0) s) 25 e o) ≡ refused e (numberOf y)) →
+  pub drop-refused : (y : Refusal) → ((e : End) (o : Outcome) → check x 6 e (check (starts Reserved (n .tx .«block_count») (tableOf t 0) s) 25 e o) ≡ refused e (numberOf y)) →
       refused (joined n t ps bs) (numberOf y) ≡ dropOf (joined n t ps bs) s
   unfolding dropOf
   drop-refused y h = sym (rw (← q) (h (joined n t ps bs) _))
 
-  pub dropped : (z : Entry) (t′ : List ℕ) → (x ≡ true) × (starts Reserved (n .tx .count) (tableOf t 0) s ≡ true) × (z ≡ entry (tableOf t 0) s) → Changed t t′ 0 (freed (tableOf t 0) s (z .count)) →
+  pub dropped : (z : Entry) (t′ : List ℕ) → (x ≡ true) × (starts Reserved (n .tx .«block_count») (tableOf t 0) s ≡ true) × (z ≡ entry (tableOf t 0) s) → Changed t t′ 0 (freed (tableOf t 0) s (z .count)) →
       accepted (joined n t′ ps bs) nothing ≡ dropOf (joined n t ps bs) s
   unfolding dropOf
   dropped z t′ h c = rw (← q, h .0, h .1, ← (h .2)) (ap (λ (e : End). accepted e nothing) (joined-sent n t t′ (freed (tableOf t 0) s (z .count)) ps bs c))
 
-  pub done-refused : (y : Refusal) → ((e : End) (o : Outcome) → check x 6 e (check (startsData (n .rx .count) (n .rx .size) (tableOf t 1568) s) 25 e o) ≡ refused e (numberOf y)) →
+  pub done-refused : (y : Refusal) → ((e : End) (o : Outcome) → check x 6 e (check (startsData (n .rx .«block_count») (n .rx .«block_size») (tableOf t 1568) s) 25 e o) ≡ refused e (numberOf y)) →
       refused (joined n t ps bs) (numberOf y) ≡ doneOf (joined n t ps bs) s
   unfolding doneOf
   done-refused y h = sym (rw (← q) (h (joined n t ps bs) _))
 
-  pub ended : (z : Entry) (t′ : List ℕ) → (x ≡ true) × (startsData (n .rx .count) (n .rx .size) (tableOf t 1568) s ≡ true) × (z ≡ entry (tableOf t 1568) s) →
+  pub ended : (z : Entry) (t′ : List ℕ) → (x ≡ true) × (startsData (n .rx .«block_count») (n .rx .«block_size») (tableOf t 1568) s ≡ true) × (z ≡ entry (tableOf t 1568) s) →
       Changed t t′ 1568 (freed (tableOf t 1568) s (z .count)) → accepted (joined n t′ ps bs) (control 1 0 s) ≡ doneOf (joined n t ps bs) s
   unfolding doneOf
   ended z t′ h c = rw (← q, h .0, h .1, ← (h .2)) (ap (λ (e : End). accepted e (control 1 0 s)) (joined-held n t t′ (freed (tableOf t 1568) s (z .count)) ps bs c))
@@ -75,22 +75,22 @@ module _ (n : Numbers) (t : List ℕ) (s : ℕ) (ps : List Endpoint) (bs : List 
 -- ---- rooms and views
 
 module _ (n : Numbers) (t : List ℕ) (l s : ℕ) (ps : List Endpoint) (bs : List Binding) (x : Bool) where
-  pub room-refused : x ≡ whole (joined n t ps bs) (n .tx) l → (y : Refusal) → ((e : End) (o : Outcome) → check x 6 e (check (starts Reserved (n .tx .count) (tableOf t 0) s) 25 e o) ≡ refused e (numberOf y)) →
+  pub room-refused : x ≡ whole (joined n t ps bs) (n .tx) l → (y : Refusal) → ((e : End) (o : Outcome) → check x 6 e (check (starts Reserved (n .tx .«block_count») (tableOf t 0) s) 25 e o) ≡ refused e (numberOf y)) →
       refused (joined n t ps bs) (numberOf y) ≡ roomOf (joined n t ps bs) l s
   unfolding roomOf
   room-refused q y h = sym (rw (← q) (h (joined n t ps bs) _))
 
-  pub room-placed : x ≡ whole (joined n t ps bs) (n .tx) l → (z : Entry) → (x ≡ true) × (starts Reserved (n .tx .count) (tableOf t 0) s ≡ true) × (z ≡ entry (tableOf t 0) s) →
-      placed (joined n t ps bs) (blockAt (n .tx) s + 4) (z .count * n .tx .size - 4) ≡ roomOf (joined n t ps bs) l s
+  pub room-placed : x ≡ whole (joined n t ps bs) (n .tx) l → (z : Entry) → (x ≡ true) × (starts Reserved (n .tx .«block_count») (tableOf t 0) s ≡ true) × (z ≡ entry (tableOf t 0) s) →
+      placed (joined n t ps bs) (blockAt (n .tx) s + 4) (z .count * n .tx .«block_size» - 4) ≡ roomOf (joined n t ps bs) l s
   unfolding roomOf
   room-placed q z h = rw (← q, h .0, h .1, ← (h .2))
 
-  pub view-refused : x ≡ whole (joined n t ps bs) (n .rx) l → (y : Refusal) → ((e : End) (o : Outcome) → check x 6 e (check (startsData (n .rx .count) (n .rx .size) (tableOf t 1568) s) 25 e o) ≡ refused e (numberOf y)) →
+  pub view-refused : x ≡ whole (joined n t ps bs) (n .rx) l → (y : Refusal) → ((e : End) (o : Outcome) → check x 6 e (check (startsData (n .rx .«block_count») (n .rx .«block_size») (tableOf t 1568) s) 25 e o) ≡ refused e (numberOf y)) →
       refused (joined n t ps bs) (numberOf y) ≡ viewOf (joined n t ps bs) l s
   unfolding viewOf
   view-refused q y h = sym (rw (← q) (h (joined n t ps bs) _))
 
-  pub view-placed : x ≡ whole (joined n t ps bs) (n .rx) l → (z : Entry) → (x ≡ true) × (startsData (n .rx .count) (n .rx .size) (tableOf t 1568) s ≡ true) × (z ≡ entry (tableOf t 1568) s) →
+  pub view-placed : x ≡ whole (joined n t ps bs) (n .rx) l → (z : Entry) → (x ≡ true) × (startsData (n .rx .«block_count») (n .rx .«block_size») (tableOf t 1568) s ≡ true) × (z ≡ entry (tableOf t 1568) s) →
       placed (joined n t ps bs) (blockAt (n .rx) s + 4) (z .length) ≡ viewOf (joined n t ps bs) l s
   unfolding viewOf
   view-placed q z h = rw (← q, h .0, h .1, ← (h .2))
@@ -104,13 +104,13 @@ place-inside e n b p x false k h = omega arith
 pub room-inside : (e : End) (n s : ℕ) → roomOf e n s .begin + roomOf e n s .size ≤ n
 unfolding roomOf
 room-inside e n s =
-    place-inside e n 25 (blockAt (e .tx) s + 4) (entry (e .sent) s .count * e .tx .size - 4) (whole e (e .tx) n) (starts Reserved (e .tx .count) (e .sent) s)
+    place-inside e n 25 (blockAt (e .tx) s + 4) (entry (e .sent) s .count * e .tx .«block_size» - 4) (whole e (e .tx) n) (starts Reserved (e .tx .«block_count») (e .sent) s)
     (λ w k. let p = room-part e n s w k in omega (arith, p .inside, p .four))
 
 pub view-inside : (e : End) (n s : ℕ) → viewOf e n s .begin + viewOf e n s .size ≤ n
 unfolding viewOf
 view-inside e n s =
-    place-inside e n 25 (blockAt (e .rx) s + 4) (entry (e .held) s .length) (whole e (e .rx) n) (startsData (e .rx .count) (e .rx .size) (e .held) s)
+    place-inside e n 25 (blockAt (e .rx) s + 4) (entry (e .held) s .length) (whole e (e .rx) n) (startsData (e .rx .«block_count») (e .rx .«block_size») (e .held) s)
     (λ w k. let p = view-part e n s w k in omega (arith, p .0 .inside, p .1))
 
 -- the part that the code cuts out at b, of z bytes, is the one at the place o; q is where the slice begins

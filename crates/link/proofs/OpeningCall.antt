@@ -19,13 +19,13 @@ use Rattle.icbmsg.specs.declared.Bounds.{Bounds}
 use Rattle.icbmsg.specs.declared.Opening.{Opening}
 
 -- what the code needs of a region that is laid out
-module _ (b : Bounds) (r a : ℕ) (x : LayoutAnswer) (h : outcomeOf x ≡ layout (b .begin) (b .end) (b .blocks) r a) (y : RegionLayout) (q : x ≡ Accepted y) where
-  is : layout (b .begin) (b .end) (b .blocks) r a ≡ outcomeOf (Accepted y)
+module _ (b : Bounds) (r a : ℕ) (x : LayoutAnswer) (h : outcomeOf x ≡ layout (b .begin) (b .end) (b .«block_count») r a) (y : RegionLayout) (q : x ≡ Accepted y) where
+  is : layout (b .begin) (b .end) (b .«block_count») r a ≡ outcomeOf (Accepted y)
   is = sym h ∙ ap outcomeOf q
 
-  pub laid-out : (b .begin ≤ b .end) × (b .begin ≤ y .begin) × (b .begin ≤ y .blocks) × (b .blocks < 65536) × (a < 65536)
+  pub laid-out : (b .begin ≤ b .end) × (b .begin ≤ y .begin) × (b .begin ≤ y .«blocks_begin») × (b .«block_count» < 65536) × (a < 65536)
   laid-out =
-      let z = rw is at (accepted-layouts-lie-inside (b .begin) (b .end) (b .blocks) r a (ap (λ o. o .number) is)) in
+      let z = rw is at (accepted-layouts-lie-inside (b .begin) (b .end) (b .«block_count») r a (ap (λ o. o .number) is)) in
       let w = z .in-rule in
       omega (arith, z .begins, z .header-and-data, w .bounds, w .local-high, w .alignment-high)
 
@@ -49,7 +49,7 @@ module _ (o : Opening) (t : LayoutAnswer) (h : outcomeOf t ≡ txLayout o) where
       overlap l = rw (← h, q, ← k, p, l)
 
       pub opened : (leb (o .tx .end) (o .rx .begin) || leb (o .rx .end) (o .tx .begin)) ≡ true →
-          accepted (fresh (ltb (o .rx .begin) (o .tx .begin)) (o .align) (region (o .tx) (outcomeOf (Accepted y))) (region (o .rx) (outcomeOf (Accepted z)))) nothing
+          accepted (fresh (ltb (o .rx .begin) (o .tx .begin)) (o .alignment) (region (o .tx) (outcomeOf (Accepted y))) (region (o .rx) (outcomeOf (Accepted z)))) nothing
           ≡ opening o
       unfolding opening
       opened l = rw (← h, q, ← k, p, l)

@@ -43,7 +43,7 @@ unfolding wrote
 quiet o e n s h = (rw h, rw h)
 
 -- what the numbers of an open end say of the transmit region, and of the receive region
-pub tx-sound : (n : Numbers) → openNumbers (n .align) (n .tx) (n .rx) (n .write) (n .read) ≡ true → Sound (n .align) (n .tx) × Sound (n .align) (n .rx)
+pub tx-sound : (n : Numbers) → openNumbers (n .alignment) (n .tx) (n .rx) (n .write) (n .read) ≡ true → Sound (n .alignment) (n .tx) × Sound (n .alignment) (n .rx)
 tx-sound n h = let e : End = joined n [] [] [] in let o = open-says e (is-open e _ refl h) in (o .tx, o .rx)
 
 -- ---- the initiator: the name, at place i
@@ -54,7 +54,7 @@ module _ (n : Numbers) (t : List ℕ) (name : List ℕ) (r : Space) (h : FitAs r
   initiate-refused x q ps bs i = let w = rw q at h in w (joined n t ps bs) _
 
   module _ (s m : ℕ) (q : r ≡ Space.At s m) where
-    pub initiate-fits : (m ≡ blocksFor (n .tx .size) (length name + 1)) × (1 ≤ m) × (s + m ≤ n .tx .count)
+    pub initiate-fits : (m ≡ blocksFor (n .tx .«block_size») (length name + 1)) × (1 ≤ m) × (s + m ≤ n .tx .«block_count»)
     initiate-fits = let w = rw q at h in (w .0, w .3, w .4)
 
     announces : (ps : List Endpoint) (bs : List Binding) (i : ℕ) → initiates (joined n t ps bs) name i ≡ announcement (joined n t ps bs) name i (unusedFrom 8 0 ps) s
@@ -71,28 +71,28 @@ module _ (n : Numbers) (t : List ℕ) (name : List ℕ) (r : Space) (h : FitAs r
         (rw (announces ps bs i, ← (w .0), c .table, c .upper 1568 (omega arith), u, k), rw (announces ps bs i, l))
 
 -- the message and its zero lie in its blocks
-pub announcement-inside : (n : Numbers) (k s m l : ℕ) → Sound (n .align) (n .tx) → m ≡ blocksFor (n .tx .size) k → s + m ≤ n .tx .count → l ≡ n .tx .bytes →
-    (n .tx .blocks + s * n .tx .size + k + 4 ≤ l) × (l ≤ 1048576)
+pub announcement-inside : (n : Numbers) (k s m l : ℕ) → Sound (n .alignment) (n .tx) → m ≡ blocksFor (n .tx .«block_size») k → s + m ≤ n .tx .«block_count» → l ≡ n .tx .length →
+    (n .tx .«blocks_offset» + s * n .tx .«block_size» + k + 4 ≤ l) × (l ≤ 1048576)
 announcement-inside n k s m l o q h p =
-    let z : 1 ≤ n .tx .size = omega (arith, o .size) in
-    let i = run-inside (n .align) (n .tx) s m o h in
-    let f : k + 4 ≤ m * n .tx .size = rw q (blocks-hold (n .tx .size) k z) in
+    let z : 1 ≤ n .tx .«block_size» = omega (arith, o .size) in
+    let i = run-inside (n .alignment) (n .tx) s m o h in
+    let f : k + 4 ≤ m * n .tx .«block_size» = rw q (blocks-hold (n .tx .«block_size») k z) in
     (omega (arith, i, f), omega (arith, o .bytes))
 
 -- ---- the follower
 
 module _ (n : Numbers) (t : List ℕ) (bs : List Binding) (kept : List ℕ) (i : ℕ) (name : List ℕ) (ps : List Endpoint) (k : kept ≡ paddedName name) where
-  found : (q : Search) → bindingAt (bindingTest Holds (n .rx .count) 0 kept) bs ≡ q → bindingAt (holds (n .rx .count) name) bs ≡ q
-  found q h = sym (ap (λ (m : List ℕ). bindingAt (bindingTest Holds (n .rx .count) 0 m) bs) k) ∙ h
+  found : (q : Search) → bindingAt (bindingTest Holds (n .rx .«block_count») 0 kept) bs ≡ q → bindingAt (holds (n .rx .«block_count») name) bs ≡ q
+  found q h = sym (ap (λ (m : List ℕ). bindingAt (bindingTest Holds (n .rx .«block_count») 0 m) bs) k) ∙ h
 
-  pub follow-waits : bindingAt (bindingTest Holds (n .rx .count) 0 kept) bs ≡ nowhere →
-      accepted (joined n t (set ps i (record { stage = Waiting; address = 0; name = kept })) bs) nothing ≡ followed (joined n t ps bs) name i (bindingAt (holds (n .rx .count) name) bs)
+  pub follow-waits : bindingAt (bindingTest Holds (n .rx .«block_count») 0 kept) bs ≡ nowhere →
+      accepted (joined n t (set ps i (record { stage = Waiting; address = 0; name = kept })) bs) nothing ≡ followed (joined n t ps bs) name i (bindingAt (holds (n .rx .«block_count») name) bs)
   unfolding changed
   follow-waits h = rw (found nowhere h, k)
 
-  pub follow-binds : (j : ℕ) (b : Binding) (t′ : List ℕ) → bindingAt (bindingTest Holds (n .rx .count) 0 kept) bs ≡ foundAt j → b ≡ getD bs j noBinding → Changed t t′ 1568 (freed (tableOf t 1568) (b .start) (b .count)) →
+  pub follow-binds : (j : ℕ) (b : Binding) (t′ : List ℕ) → bindingAt (bindingTest Holds (n .rx .«block_count») 0 kept) bs ≡ foundAt j → b ≡ getD bs j noBinding → Changed t t′ 1568 (freed (tableOf t 1568) (b .start) (b .count)) →
       accepted (joined n t′ (set ps i (record { stage = Bound; address = b .address; name = kept })) (set bs j noBinding)) (control 3 (b .address) (b .start))
-      ≡ followed (joined n t ps bs) name i (bindingAt (holds (n .rx .count) name) bs)
+      ≡ followed (joined n t ps bs) name i (bindingAt (holds (n .rx .«block_count») name) bs)
   unfolding changed
   follow-binds j b t′ h p c = rw (found (foundAt j) h, k, c .table, c .lower 0 (omega arith), p)
 
@@ -125,20 +125,20 @@ module _ (p : Place) (e : End) (l : ℕ) (n kept : List ℕ) (h : PlaceAs p e l 
   place-at i q = rw q at h
 
 pub whole-numbers : (n : Numbers) (t : List ℕ) (ps : List Endpoint) (bs : List Binding) (l : ℕ) → whole (joined n t ps bs) (n .tx) l ≡ true →
-    (openNumbers (n .align) (n .tx) (n .rx) (n .write) (n .read) ≡ true) × (l ≡ n .tx .bytes)
+    (openNumbers (n .alignment) (n .tx) (n .rx) (n .write) (n .read) ≡ true) × (l ≡ n .tx .length)
 unfolding isOpen
 whole-numbers n t ps bs l h = let w = whole-says (joined n t ps bs) (n .tx) l h in (w .is-open, w .lent)
 
-module _ (e : End) (l : ℕ) (n : List ℕ) (i : ℕ) (q : registerOf e l n ≡ pick (e .initiator) (initiates e n i) (followed e n i (bindingAt (holds (e .rx .count) n) (e .bindings)))) where
-  by-role : (b : Bool) → e .initiator ≡ b → registerOf e l n ≡ pick b (initiates e n i) (followed e n i (bindingAt (holds (e .rx .count) n) (e .bindings)))
-  by-role b h = q ∙ ap (λ (b : Bool). pick b (initiates e n i) (followed e n i (bindingAt (holds (e .rx .count) n) (e .bindings)))) h
+module _ (e : End) (l : ℕ) (n : List ℕ) (i : ℕ) (q : registerOf e l n ≡ pick (e .initiator) (initiates e n i) (followed e n i (bindingAt (holds (e .rx .«block_count») n) (e .bindings)))) where
+  by-role : (b : Bool) → e .initiator ≡ b → registerOf e l n ≡ pick b (initiates e n i) (followed e n i (bindingAt (holds (e .rx .«block_count») n) (e .bindings)))
+  by-role b h = q ∙ ap (λ (b : Bool). pick b (initiates e n i) (followed e n i (bindingAt (holds (e .rx .«block_count») n) (e .bindings)))) h
 
   pub registers-first : e .initiator ≡ true → (o : Outcome) (s s′ : List ℕ) → o ≡ withoutWrites (initiates e n i) → s′ ≡ wrote s (initiates e n i .tx) →
       (o ≡ withoutWrites (registerOf e l n)) × (s′ ≡ wrote s (registerOf e l n .tx))
   registers-first h o s s′ k m = let z = by-role true h in (k ∙ ap withoutWrites (sym z), m ∙ ap (λ (x : Outcome). wrote s (x .tx)) (sym z))
 
-  pub registers-later : e .initiator ≡ false → (o : Outcome) (s : List ℕ) → o ≡ followed e n i (bindingAt (holds (e .rx .count) n) (e .bindings)) →
+  pub registers-later : e .initiator ≡ false → (o : Outcome) (s : List ℕ) → o ≡ followed e n i (bindingAt (holds (e .rx .«block_count») n) (e .bindings)) →
       (o ≡ withoutWrites (registerOf e l n)) × (s ≡ wrote s (registerOf e l n .tx))
   registers-later h o s k =
-      let r = followed-quiet e n i (bindingAt (holds (e .rx .count) n) (e .bindings)) (registerOf e l n) s (by-role false h) in
+      let r = followed-quiet e n i (bindingAt (holds (e .rx .«block_count») n) (e .bindings)) (registerOf e l n) s (by-role false h) in
       (k ∙ r .0, r .1)

@@ -72,4 +72,4 @@ InitiatesTx n t ps name i s s′ = (bs : List Binding) → s′ ≡ wrote s (ini
 abbrev pub Follows : Called → Numbers → List ℕ → List Binding → List ℕ → ℕ → List ℕ → Type 0
 Follows r n t bs kept i t′ =
     (ps : List Endpoint) (name : List ℕ) → kept ≡ paddedName name →
-    calledOf r n t′ ps bs ≡ followed (joined n t ps bs) name i (bindingAt (holds (n .rx .count) name) bs)
+    calledOf r n t′ ps bs ≡ followed (joined n t ps bs) name i (bindingAt (holds (n .rx .«block_count») name) bs)

@@ -34,7 +34,7 @@ fn data_sent(
     address: u8,
     block: u8,
 ) -> Answer
-    requires { ⌜ (openNumbers (n .align) (n .tx) (n .rx) (n .write) (n .read) ≡ true) × (length (now rx) ≡ n .rx .bytes) × (length (now t) ≡ 3136) ⌝ }
+    requires { ⌜ (openNumbers (n .alignment) (n .tx) (n .rx) (n .write) (n .read) ≡ true) × (length (now rx) ≡ n .rx .length) × (length (now t) ≡ 3136) ⌝ }
     ensures { λ r. ⌜ OnEndpoints (λ e. answerTo (dataRule e address block) (now (rx .entry))) n (now (t .entry)) endpoints r (now (t .exit)) ⌝ }
 {
     match checks::arrivals::data_sent(n, t, endpoints, rx, address, block) {
@@ -61,7 +61,7 @@ fn data_sent(
 
 // Kind 1: the partner is done with a data message. As many blocks are freed as were recorded when it was sent.
 fn data_released(n: Numbers, t: &mut [u8], block: u8) -> Answer
-    requires { ⌜ (openNumbers (n .align) (n .tx) (n .rx) (n .write) (n .read) ≡ true) × (length (now t) ≡ 3136) ⌝ }
+    requires { ⌜ (openNumbers (n .alignment) (n .tx) (n .rx) (n .write) (n .read) ≡ true) × (length (now t) ≡ 3136) ⌝ }
     ensures { λ r. ⌜ OnTables (λ e. releaseOf e block) n (now (t .entry)) r (now (t .exit)) ⌝ }
 {
     match checks::arrivals::data_released(n, t, block) {
@@ -83,7 +83,7 @@ fn binding_sent(
     address: u8,
     block: u8,
 ) -> Called
-    requires { ⌜ (openNumbers (n .align) (n .tx) (n .rx) (n .write) (n .read) ≡ true) × (length (now rx) ≡ n .rx .bytes) × (length (now t) ≡ 3136) ⌝ }
+    requires { ⌜ (openNumbers (n .alignment) (n .tx) (n .rx) (n .write) (n .read) ≡ true) × (length (now rx) ≡ n .rx .length) × (length (now t) ≡ 3136) ⌝ }
     ensures { λ r. ⌜ calledOf r n (now (t .exit)) endpoints bindings ≡ answerTo (boundRule (joined n (now (t .entry)) endpoints bindings) address block) (now (rx .entry)) ⌝ }
 {
     let named = checks::arrivals::binding_sent(n, t, endpoints, bindings, rx, address, block);
@@ -137,7 +137,7 @@ fn binding_released(
     address: u8,
     block: u8,
 ) -> Called
-    requires { ⌜ (openNumbers (n .align) (n .tx) (n .rx) (n .write) (n .read) ≡ true) × (length (now t) ≡ 3136) ⌝ }
+    requires { ⌜ (openNumbers (n .alignment) (n .tx) (n .rx) (n .write) (n .read) ≡ true) × (length (now t) ≡ 3136) ⌝ }
     ensures { λ r. ⌜ Unbinds r n (now (t .entry)) endpoints address block (now (t .exit)) ⌝ }
 {
     match checks::arrivals::binding_released(n, t, address, block) {

@@ -61,15 +61,15 @@ impl End {
             &tables[..],
             tables::SENT,
             Use::Reserved,
-            numbers.tx.count,
+            numbers.tx.block_count,
             start,
         );
         match run {
             Run::Refused(x) => nowhere(x),
             Run::Live(x) => Place {
                 answer: Answer::Accepted,
-                begin: numbers.tx.blocks + start * numbers.tx.size + 4,
-                size: x.count as u32 * numbers.tx.size - 4,
+                begin: numbers.tx.blocks_offset + start * numbers.tx.block_size + 4,
+                size: x.count as u32 * numbers.tx.block_size - 4,
             },
         }
     }
@@ -120,7 +120,7 @@ impl End {
                 count,
             } => {
                 let s = start as usize;
-                let header = numbers.tx.blocks as usize + s * numbers.tx.size as usize;
+                let header = numbers.tx.blocks_offset as usize + s * numbers.tx.block_size as usize;
                 wire::write_u32(tx, header, k);
                 tables::free_run(t, tables::SENT, s, held);
                 tables::take_run(t, tables::SENT, Use::SentData, s, count, address, k);
@@ -145,7 +145,7 @@ impl End {
             t,
             tables::SENT,
             Use::Reserved,
-            numbers.tx.count,
+            numbers.tx.block_count,
             start,
         );
         match run {
@@ -171,7 +171,7 @@ impl End {
             Run::Refused(x) => nowhere(x),
             Run::Live(x) => Place {
                 answer: Answer::Accepted,
-                begin: numbers.rx.blocks + start * numbers.rx.size + 4,
+                begin: numbers.rx.blocks_offset + start * numbers.rx.block_size + 4,
                 size: x.length,
             },
         }

@@ -20,38 +20,38 @@ use region::LayoutAnswer;
 use region::RegionLayout;
 
 const NO_REGION: Region = Region {
-    bytes: 0,
-    base: 0,
-    ring: 0,
-    blocks: 0,
-    count: 0,
-    size: 0,
+    length: 0,
+    ring_offset: 0,
+    data_length: 0,
+    blocks_offset: 0,
+    block_count: 0,
+    block_size: 0,
 };
 
 // The numbers of a region that is laid out so. Its first byte, at the raw begin, is position 0.
 fn placed_region(b: Bounds, y: RegionLayout) -> Region
-    requires { ⌜ (b .begin ≤ b .end) × (b .begin ≤ y .begin) × (b .begin ≤ y .blocks) × (b .blocks < 65536) ⌝ }
+    requires { ⌜ (b .begin ≤ b .end) × (b .begin ≤ y .begin) × (b .begin ≤ y .«blocks_begin») × (b .«block_count» < 65536) ⌝ }
     ensures { λ r. ⌜ r ≡ regionRule b (layoutOf (LayoutAnswer.Accepted y)) ⌝ }
 {
     Region {
-        bytes: b.end - b.begin,
-        base: y.begin - b.begin,
-        ring: y.data,
-        blocks: y.blocks - b.begin,
-        count: b.blocks as u16,
-        size: y.block,
+        length: b.end - b.begin,
+        ring_offset: y.begin - b.begin,
+        data_length: y.data_length,
+        blocks_offset: y.blocks_begin - b.begin,
+        block_count: b.block_count as u16,
+        block_size: y.block_size,
     }
 }
 
 impl End {
     // An end on which nothing has happened yet.
-    fn fresh(initiator: bool, align: u16, tx: Region, rx: Region) -> End
-        ensures { λ r. ⌜ endOf r ≡ freshRule initiator align tx rx ⌝ }
+    fn fresh(initiator: bool, alignment: u16, tx: Region, rx: Region) -> End
+        ensures { λ r. ⌜ endOf r ≡ freshRule initiator alignment tx rx ⌝ }
     {
         End {
             numbers: Numbers {
                 initiator,
-                align,
+                alignment,
                 tx,
                 rx,
                 write: 0,
@@ -82,10 +82,22 @@ impl End {
     {
         let tx = o.tx;
         let rx = o.rx;
-        match region::layout(tx.begin, tx.end, tx.blocks, rx.blocks, o.align) {
+        match region::layout(
+            tx.begin,
+            tx.end,
+            tx.block_count,
+            rx.block_count,
+            o.alignment,
+        ) {
             LayoutAnswer::Refused(x) => End::closed(x),
             LayoutAnswer::Accepted(t) => {
-                match region::layout(rx.begin, rx.end, rx.blocks, tx.blocks, o.align) {
+                match region::layout(
+                    rx.begin,
+                    rx.end,
+                    rx.block_count,
+                    tx.block_count,
+                    o.alignment,
+                ) {
                     LayoutAnswer::Refused(x) => End::closed(x),
                     LayoutAnswer::Accepted(r) => {
                         if (tx.end <= rx.begin) | (rx.end <= tx.begin) {
@@ -93,7 +105,7 @@ impl End {
                                 answer: Answer::Accepted,
                                 end: End::fresh(
                                     rx.begin < tx.begin,
-                                    o.align as u16,
+                                    o.alignment as u16,
                                     placed_region(tx, t),
                                     placed_region(rx, r),
                                 ),

@@ -37,7 +37,7 @@ fn initiate(
     kept: [u8; 32],
     i: usize,
 ) -> Called
-    requires { ⌜ (openNumbers (n .align) (n .tx) (n .rx) (n .write) (n .read) ≡ true) × (length (now tx) ≡ n .tx .bytes) × (goodName 31 (now name) ≡ true) × (kept ≡ paddedName (now name)) × (length (now t) ≡ 3136) ⌝ }
+    requires { ⌜ (openNumbers (n .alignment) (n .tx) (n .rx) (n .write) (n .read) ≡ true) × (length (now tx) ≡ n .tx .length) × (goodName 31 (now name) ≡ true) × (kept ≡ paddedName (now name)) × (length (now t) ≡ 3136) ⌝ }
     ensures answer { λ r. ⌜ Initiates r n (now (t .entry)) endpoints (now (name .entry)) i (now (t .exit)) ⌝ }
     ensures tx { λ _. ⌜ InitiatesTx n (now (t .entry)) endpoints (now (name .entry)) i (now (tx .entry)) (now (tx .exit)) ⌝ }
 {
@@ -46,7 +46,7 @@ fn initiate(
         Space::Refused(x) => called(Answer::Refused(x)),
         Space::At { start, count } => {
             let address = endpoints::unused_address(endpoints);
-            let first = n.tx.blocks as usize + start * n.tx.size as usize;
+            let first = n.tx.blocks_offset as usize + start * n.tx.block_size as usize;
             blocks::framing::write_binding(tx, first, name);
             tables::take_run(t, tables::SENT, Use::SentBinding, start, count, address, k);
             Called {
@@ -77,10 +77,10 @@ fn follow(
     kept: [u8; 32],
     i: usize,
 ) -> Called
-    requires { ⌜ (openNumbers (n .align) (n .tx) (n .rx) (n .write) (n .read) ≡ true) × (length (now t) ≡ 3136) ⌝ }
+    requires { ⌜ (openNumbers (n .alignment) (n .tx) (n .rx) (n .write) (n .read) ≡ true) × (length (now t) ≡ 3136) ⌝ }
     ensures { λ r. ⌜ Follows r n (now (t .entry)) bindings kept i (now (t .exit)) ⌝ }
 {
-    let place = endpoints::find_binding(bindings, BindingTest::Holds, n.rx.count, 0, &kept);
+    let place = endpoints::find_binding(bindings, BindingTest::Holds, n.rx.block_count, 0, &kept);
     match place {
         Found::Nowhere => Called {
             answer: Answer::Accepted,

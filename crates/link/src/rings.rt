@@ -21,9 +21,9 @@ fn ring_of(a: u16, g: Region) -> Ring
     ensures { λ r. ⌜ r ≡ ringOf a g ⌝ }
 {
     Ring {
-        begin: g.base,
-        align: a as u32,
-        size: g.ring,
+        offset: g.ring_offset,
+        alignment: a as u32,
+        data_length: g.data_length,
     }
 }
 
@@ -67,7 +67,7 @@ impl End {
         if !checks::is_whole(numbers, numbers.tx, tx.len()) {
             return refused(numbers);
         }
-        let answer = icmsg::start(tx, ring_of(numbers.align, numbers.tx));
+        let answer = icmsg::start(tx, ring_of(numbers.alignment, numbers.tx));
         numbers.write = own_index(answer, numbers.write);
         RingCalled {
             answer: told(answer),
@@ -85,7 +85,7 @@ impl End {
         }
         let answer = icmsg::push(
             tx,
-            ring_of(numbers.align, numbers.tx),
+            ring_of(numbers.alignment, numbers.tx),
             numbers.write,
             content,
         );
@@ -105,7 +105,12 @@ impl End {
         if !checks::is_whole(numbers, numbers.rx, rx.len()) {
             return refused(numbers);
         }
-        let answer = icmsg::pull(rx, ring_of(numbers.align, numbers.rx), numbers.read, buffer);
+        let answer = icmsg::pull(
+            rx,
+            ring_of(numbers.alignment, numbers.rx),
+            numbers.read,
+            buffer,
+        );
         numbers.read = own_index(answer, numbers.read);
         RingCalled {
             answer: told(answer),

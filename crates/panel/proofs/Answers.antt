@@ -34,7 +34,7 @@ all-that-fit s numbers i e =
 
 -- each way out of the exported layout: t is the caller's answer s afterwards
 module _ (a : LayoutAnswer) (o : Outcome) (s t : List ℕ) (h : outcomeOf a ≡ o) where
-  pub accepted-layout : (y : RegionLayout) → a ≡ Accepted y → t ≡ answered s (y .begin ∷ y .data ∷ y .blocks ∷ y .block ∷ y .end ∷ []) →
+  pub accepted-layout : (y : RegionLayout) → a ≡ Accepted y → t ≡ answered s (y .begin ∷ y .«data_length» ∷ y .«blocks_begin» ∷ y .«block_size» ∷ y .end ∷ []) →
       (0 ≡ o .number) × (t ≡ answered s (layoutNumbers o))
   accepted-layout y e q = rw (← h, e) (refl, q)
 

@@ -45,7 +45,7 @@ module _ (b e l r k : ℕ) (a : LayoutAnswer) (h : outcomeOf a ≡ layout b e l 
     unfolding openNumber
     whole-slice n d = rw (is, eq-eqb n (e - b) d)
 
-    pub ring-opened : _≡_ {A = Ring} (record { begin = y .begin - b; align = k; size = y .data }) (ringIn b e l r k)
+    pub ring-opened : _≡_ {A = Ring} (record { offset = y .begin - b; alignment = k; «data_length» = y .«data_length» }) (ringIn b e l r k)
     ring-opened = rw is
 
 -- ---- a call on it: o where the ring is there

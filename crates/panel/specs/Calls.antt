@@ -19,7 +19,7 @@ openNumber begin end l r a n = passed (layout begin end l r a .number) (check (e
 
 -- the ring in it; a slice's first byte is at begin
 abbrev pub ringIn : ℕ → ℕ → ℕ → ℕ → ℕ → Ring
-ringIn begin end l r a = record { begin = layout begin end l r a .begin - begin; align = a; size = layout begin end l r a .dataLength }
+ringIn begin end l r a = record { offset = layout begin end l r a .begin - begin; alignment = a; «data_length» = layout begin end l r a .dataLength }
 
 -- in a slice of n bytes
 unfoldable pub startCall : ℕ → ℕ → ℕ → ℕ → ℕ → ℕ → Outcome

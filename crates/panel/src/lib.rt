@@ -45,7 +45,7 @@ pub extern "C" fn petrelknob_layout(
 {
     match region::layout(begin, end, local, remote, alignment) {
         LayoutAnswer::Accepted(y) => {
-            let numbers = [y.begin, y.data, y.blocks, y.block, y.end];
+            let numbers = [y.begin, y.data_length, y.blocks_begin, y.block_size, y.end];
             put_numbers(answer, &numbers);
             0
         }
@@ -67,9 +67,9 @@ fn open_ring(begin: u32, end: u32, local: u32, remote: u32, alignment: u32, n: u
         LayoutAnswer::Accepted(y) => {
             if n == (end - begin) as usize {
                 Opened::Whole(Ring {
-                    begin: y.begin - begin,
-                    align: alignment,
-                    size: y.data,
+                    offset: y.begin - begin,
+                    alignment: alignment,
+                    data_length: y.data_length,
                 })
             } else {
                 Opened::Refused(Refusal::WrongRegion)

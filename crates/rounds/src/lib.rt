@@ -42,15 +42,15 @@ fn opened(numbers: &[u32; 7]) -> End {
     let tx = Bounds {
         begin: numbers[1],
         end: numbers[2],
-        blocks: numbers[3],
+        block_count: numbers[3],
     };
     let rx = Bounds {
         begin: numbers[4],
         end: numbers[5],
-        blocks: numbers[6],
+        block_count: numbers[6],
     };
     let called = End::open(Opening {
-        align: numbers[0],
+        alignment: numbers[0],
         tx,
         rx,
     });

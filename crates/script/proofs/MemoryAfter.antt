@@ -93,11 +93,11 @@ check-quiet false n e o h = (refl, refl, refl)
 module _ (e : End) where
   pub room-quiet : (n s : ℕ) → Quiet (roomOf e n s)
   unfolding roomOf
-  room-quiet n s = check-quiet (whole e (e .tx) n) 6 e _ (check-quiet (starts Reserved (e .tx .count) (e .sent) s) 25 e _ (refl, refl, refl))
+  room-quiet n s = check-quiet (whole e (e .tx) n) 6 e _ (check-quiet (starts Reserved (e .tx .«block_count») (e .sent) s) 25 e _ (refl, refl, refl))
 
   pub view-quiet : (n s : ℕ) → Quiet (viewOf e n s)
   unfolding viewOf
-  view-quiet n s = check-quiet (whole e (e .rx) n) 6 e _ (check-quiet (startsData (e .rx .count) (e .rx .size) (e .held) s) 25 e _ (refl, refl, refl))
+  view-quiet n s = check-quiet (whole e (e .rx) n) 6 e _ (check-quiet (startsData (e .rx .«block_count») (e .rx .«block_size») (e .held) s) 25 e _ (refl, refl, refl))
 
   -- a call that is not lent a slice writes nothing to it
   pub not-received : (c : Call) → lent c .rx ≡ [] → lent c .buffer ≡ [] → (step e c .rx ≡ []) × (step e c .buffer ≡ [])

@@ -33,8 +33,8 @@ check-next false n e o h = refl
 
 pub room-next : (e : End) (n s : ℕ) → roomOf e n s .next ≡ e
 unfolding roomOf
-room-next e n s = check-next (whole e (e .tx) n) 6 e _ (check-next (starts Reserved (e .tx .count) (e .sent) s) 25 e _ refl)
+room-next e n s = check-next (whole e (e .tx) n) 6 e _ (check-next (starts Reserved (e .tx .«block_count») (e .sent) s) 25 e _ refl)
 
 pub view-next : (e : End) (n s : ℕ) → viewOf e n s .next ≡ e
 unfolding viewOf
-view-next e n s = check-next (whole e (e .rx) n) 6 e _ (check-next (startsData (e .rx .count) (e .rx .size) (e .held) s) 25 e _ refl)
+view-next e n s = check-next (whole e (e .rx) n) 6 e _ (check-next (startsData (e .rx .«block_count») (e .rx .«block_size») (e .held) s) 25 e _ refl)

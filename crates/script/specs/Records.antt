@@ -21,9 +21,9 @@ numberAt n s p = fromLittleEndian (bytes s (straight p) n)
 abbrev pub openingOf : List ℕ → EndOpening
 openingOf s =
     record {
-      align = numberAt 2 s 20;
-      tx = record { begin = numberAt 4 s 0; end = numberAt 4 s 4; blocks = numberAt 2 s 16 };
-      rx = record { begin = numberAt 4 s 8; end = numberAt 4 s 12; blocks = numberAt 2 s 18 };
+      alignment = numberAt 2 s 20;
+      tx = record { begin = numberAt 4 s 0; end = numberAt 4 s 4; «block_count» = numberAt 2 s 16 };
+      rx = record { begin = numberAt 4 s 8; end = numberAt 4 s 12; «block_count» = numberAt 2 s 18 };
     }
 
 unfoldable pub begun : List ℕ → Begun

@@ -32,15 +32,15 @@ pub fn opening(script: &[u8]) -> Begun
     let tx = Bounds {
         begin: wire::read_u32(script, 0),
         end: wire::read_u32(script, 4),
-        blocks: wire::read_u16(script, 16),
+        block_count: wire::read_u16(script, 16),
     };
     let rx = Bounds {
         begin: wire::read_u32(script, 8),
         end: wire::read_u32(script, 12),
-        blocks: wire::read_u16(script, 18),
+        block_count: wire::read_u16(script, 18),
     };
     Begun::Opening(Opening {
-        align: wire::read_u16(script, 20),
+        alignment: wire::read_u16(script, 20),
         tx,
         rx,
     })

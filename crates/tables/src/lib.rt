@@ -128,37 +128,37 @@ pub fn entry_at(t: &[u8], base: usize, i: usize) -> Entry
 }
 
 // The live run in use u that starts at s.
-pub fn run_at(t: &[u8], base: usize, u: Use, count: u16, s: u32) -> RunAt
+pub fn run_at(t: &[u8], base: usize, u: Use, block_count: u16, s: u32) -> RunAt
     requires { ⌜ (base ≤ 1568) × (length (now t) ≡ 3136) ⌝ }
-    ensures { λ r. ⌜ IsRun r (tableOf (now (t .entry)) base) s (startsRule u count (tableOf (now (t .entry)) base) s) ⌝ }
+    ensures { λ r. ⌜ IsRun r (tableOf (now (t .entry)) base) s (startsRule u «block_count» (tableOf (now (t .entry)) base) s) ⌝ }
 {
     if region::MAX_BLOCKS <= s {
         return RunAt::Nothing;
     }
     let x = entry_at(t, base, s as usize);
-    if blocks::starts(u, count, x, s) {
+    if blocks::starts(u, block_count, x, s) {
         RunAt::Live(x)
     } else {
         RunAt::Nothing
     }
 }
 
-// Whether the run's blocks, of `size` bytes each, hold its header and its length.
-fn holds_length(size: u32, x: Entry) -> bool
-    ensures { λ r. ⌜ r ≡ holdsLength size x ⌝ }
+// Whether the run's blocks, of `block_size` bytes each, hold its header and its length.
+fn holds_length(block_size: u32, x: Entry) -> bool
+    ensures { λ r. ⌜ r ≡ holdsLength «block_size» x ⌝ }
 {
-    x.length as u64 + 4 <= x.count as u64 * size as u64
+    x.length as u64 + 4 <= x.count as u64 * block_size as u64
 }
 
-// The received data that starts at s, in blocks of `size` bytes. What its run does not hold is none.
-pub fn data_at(t: &[u8], base: usize, count: u16, size: u32, s: u32) -> RunAt
+// The received data that starts at s, in blocks of `block_size` bytes. What its run does not hold is none.
+pub fn data_at(t: &[u8], base: usize, block_count: u16, block_size: u32, s: u32) -> RunAt
     requires { ⌜ (base ≤ 1568) × (length (now t) ≡ 3136) ⌝ }
-    ensures { λ r. ⌜ IsRun r (tableOf (now (t .entry)) base) s (startsData count size (tableOf (now (t .entry)) base) s) ⌝ }
+    ensures { λ r. ⌜ IsRun r (tableOf (now (t .entry)) base) s (startsData «block_count» «block_size» (tableOf (now (t .entry)) base) s) ⌝ }
 {
-    match run_at(t, base, Use::ReceivedData, count, s) {
+    match run_at(t, base, Use::ReceivedData, block_count, s) {
         RunAt::Nothing => RunAt::Nothing,
         RunAt::Live(x) => {
-            if holds_length(size, x) {
+            if holds_length(block_size, x) {
                 RunAt::Live(x)
             } else {
                 RunAt::Nothing
@@ -167,13 +167,13 @@ pub fn data_at(t: &[u8], base: usize, count: u16, size: u32, s: u32) -> RunAt
     }
 }
 
-// The lowest run of n free blocks among the first `count`. One pass: `run` free ones lie before block i, whose bit is that of m. The bit is
+// The lowest run of n free blocks among the first `block_count`. One pass: `run` free ones lie before block i, whose bit is that of m. The bit is
 // turned from block to block, which is quicker than moving the byte.
-pub fn lowest_run(t: &[u8], base: usize, count: u16, n: usize) -> Found
-    requires { ⌜ (count ≤ 256) × (1 ≤ n) × (base ≤ 1568) × (length (now t) ≡ 3136) ⌝ }
-    ensures { λ r. ⌜ (searchOf r ≡ freeRun count (tableOf (now (t .entry)) base) n) × FoundBelow r n count ⌝ }
+pub fn lowest_run(t: &[u8], base: usize, block_count: u16, n: usize) -> Found
+    requires { ⌜ («block_count» ≤ 256) × (1 ≤ n) × (base ≤ 1568) × (length (now t) ≡ 3136) ⌝ }
+    ensures { λ r. ⌜ (searchOf r ≡ freeRun «block_count» (tableOf (now (t .entry)) base) n) × FoundBelow r n «block_count» ⌝ }
 {
-    let end = count as usize;
+    let end = block_count as usize;
     let mut m: u8 = 1;
     let mut run: usize = 0;
     let mut i: usize = 0;
@@ -213,12 +213,12 @@ pub fn all_free(t: &[u8], base: usize, s: usize, n: usize) -> bool
     true
 }
 
-// How many of the first `count` blocks are free.
-pub fn free_blocks(t: &[u8], base: usize, count: u16) -> u32
+// How many of the first `block_count` blocks are free.
+pub fn free_blocks(t: &[u8], base: usize, block_count: u16) -> u32
     requires { ⌜ (base ≤ 1568) × (length (now t) ≡ 3136) ⌝ }
-    ensures { λ r. ⌜ r ≡ freeBlocks count (tableOf (now (t .entry)) base) ⌝ }
+    ensures { λ r. ⌜ r ≡ freeBlocks «block_count» (tableOf (now (t .entry)) base) ⌝ }
 {
-    let end = wire::least(count as usize, ENTRIES);
+    let end = wire::least(block_count as usize, ENTRIES);
     let mut bits: u8 = 0;
     let mut free: u32 = 0;
     let mut i: usize = 0;

@@ -12,7 +12,7 @@ use Rattle.blocks.proofs.least_blocks.Reads as least-blocks-reads
 use Rattle.tables.proofs.lowest_run.Reads as lowest-run-reads
 
 some : (c : tie.After-least-blocks) → 1 ≤ c .least-blocks .result
-some c = rw (c .least-blocks .ensures) (blocks-one (c .before .before .args .g .size) (c .before .before .args .k) (c .before .before .pre .0))
+some c = rw (c .least-blocks .ensures) (blocks-one (c .before .before .args .g .«block_size») (c .before .before .args .k) (c .before .before .pre .0))
 
 least-blocks-requires : tie.Need-least-blocks-requires
 least-blocks-requires c κs = search needs

@@ -20,7 +20,7 @@ is-sound-requires-2 c κs = search needs
 returns : tie.Need-returns
 returns c =
     let n = c .before .before .before .before .args .n in
-    open-of (n .align) (n .tx) (n .rx) (n .write) (n .read) _ _ _ _ (c .before .before .before .in-rule .ensures) (c .before .before .in-rule2 .ensures) (c .before .is-sound .ensures) (c .is-sound2 .ensures)
+    open-of (n .alignment) (n .tx) (n .rx) (n .write) (n .read) _ _ _ _ (c .before .before .before .in-rule .ensures) (c .before .before .in-rule2 .ensures) (c .before .is-sound .ensures) (c .is-sound2 .ensures)
 
 pub is-open-spec : {M : Type 1} → statement M
 is-open-spec =

@@ -5,23 +5,23 @@ use borrow.Author.Needs.{needs}
 use Rattle.checks.proofs.is_sound.Statement.{statement}
 use Rattle.checks.proofs.is_sound.Tie as tie
 
-cast-base : tie.Need-cast-base
-cast-base c = search needs
+cast-ring-offset : tie.Need-cast-ring-offset
+cast-ring-offset c = search needs
 
-cast-ring : tie.Need-cast-ring
-cast-ring c = search needs
+cast-data-length : tie.Need-cast-data-length
+cast-data-length c = search needs
 
-cast-blocks : tie.Need-cast-blocks
-cast-blocks c = search needs
+cast-blocks-offset : tie.Need-cast-blocks-offset
+cast-blocks-offset c = search needs
 
-cast-bytes : tie.Need-cast-bytes
-cast-bytes c = search needs
+cast-length : tie.Need-cast-length
+cast-length c = search needs
 
-cast-size : tie.Need-cast-size
-cast-size c = search needs
+cast-block-size : tie.Need-cast-block-size
+cast-block-size c = search needs
 
-cast-count : tie.Need-cast-count
-cast-count c = search needs
+cast-block-count : tie.Need-cast-block-count
+cast-block-count c = search needs
 
 add-result : tie.Need-add-result
 add-result c = search needs
@@ -35,12 +35,12 @@ add-result-3 c = search needs
 mul-result : tie.Need-mul-result
 mul-result c =
     let g = c .before .before .before .before .before .before .args .g in
-    omega (arith, mul-small (g .count) (g .size) (search needs) (search needs))
+    omega (arith, mul-small (g .«block_count») (g .«block_size») (search needs) (search needs))
 
 add-result-4 : tie.Need-add-result-4
 add-result-4 c =
     let g = c .before .before .before .before .before .before .args .g in
-    omega (arith, mul-small (g .count) (g .size) (search needs) (search needs))
+    omega (arith, mul-small (g .«block_count») (g .«block_size») (search needs) (search needs))
 
 returns : tie.Need-returns
 returns c = simp (and-pick, pick-same)
@@ -49,12 +49,12 @@ pub is-sound-spec : {M : Type 1} → statement M
 is-sound-spec =
     tie.close
     (tie.spec
-    cast-base
-    cast-ring
-    cast-blocks
-    cast-bytes
-    cast-size
-    cast-count
+    cast-ring-offset
+    cast-data-length
+    cast-blocks-offset
+    cast-length
+    cast-block-size
+    cast-block-count
     add-result
     add-result-2
     add-result-3

@@ -13,7 +13,7 @@ use Rattle.tables.proofs.run_at.Reads as run-at-reads
 returns : tie.Need-returns
 returns c =
     let a = c .before .before .args in
-    run-behind (numberOf (a .otherwise)) (a .passed) (starts (a .u) (a .count) (tableOf (now (a .t)) (a .base)) (a .s)) (not-true _ (c .if1 .taken))
+    run-behind (numberOf (a .otherwise)) (a .passed) (starts (a .u) (a .block-count) (tableOf (now (a .t)) (a .base)) (a .s)) (not-true _ (c .if1 .taken))
 
 run-at-requires : tie.Need-run-at-requires
 run-at-requires c κs = search needs
@@ -27,7 +27,7 @@ enum-known-x c = search needs
 returns-2 : tie.Need-returns-2
 returns-2 c =
     let a = c .before .before .before .before .before .args in
-    run-none (numberOf (a .otherwise)) (a .passed) (starts (a .u) (a .count) (tableOf (now (a .t)) (a .base)) (a .s)) (not-false _ (c .before .before .before .if1 .left))
+    run-none (numberOf (a .otherwise)) (a .passed) (starts (a .u) (a .block-count) (tableOf (now (a .t)) (a .base)) (a .s)) (not-false _ (c .before .before .before .if1 .left))
     (nothing-there _ _ _ _ (c .before .before .run-at .ensures) (c .enum-told .given .1))
 
 returns-3 : tie.Need-returns-3

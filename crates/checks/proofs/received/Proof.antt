@@ -12,7 +12,7 @@ use Rattle.tables.proofs.data_at.Reads as data-at-reads
 returns : tie.Need-returns
 returns c =
     let a = c .before .before .args in
-    run-behind 6 (a .passed) (startsData (a .g .count) (a .g .size) (tableOf (now (a .t)) 1568) (a .s)) (not-true _ (c .if1 .taken))
+    run-behind 6 (a .passed) (startsData (a .g .«block_count») (a .g .«block_size») (tableOf (now (a .t)) 1568) (a .s)) (not-true _ (c .if1 .taken))
 
 data-at-requires : tie.Need-data-at-requires
 data-at-requires c κs = search needs
@@ -26,7 +26,7 @@ enum-known-x c = search needs
 returns-2 : tie.Need-returns-2
 returns-2 c =
     let a = c .before .before .before .before .before .args in
-    run-none 6 (a .passed) (startsData (a .g .count) (a .g .size) (tableOf (now (a .t)) 1568) (a .s)) (not-false _ (c .before .before .before .if1 .left))
+    run-none 6 (a .passed) (startsData (a .g .«block_count») (a .g .«block_size») (tableOf (now (a .t)) 1568) (a .s)) (not-false _ (c .before .before .before .if1 .left))
     (nothing-there _ _ _ _ (c .before .before .data-at .ensures) (c .enum-told .given .1))
 
 returns-3 : tie.Need-returns-3

@@ -14,7 +14,7 @@ use Rattle.checks.proofs.reservation.Tie as tie
 use Rattle.checks.proofs.fit.Reads as fit-reads
 use Rattle.checks.proofs.is_open.Reads as is-open-reads
 
-opened : (c : tie.Else1) → let n = c .before .before .before .args .n in openNumbers (n .align) (n .tx) (n .rx) (n .write) (n .read) ≡ true
+opened : (c : tie.Else1) → let n = c .before .before .before .args .n in openNumbers (n .alignment) (n .tx) (n .rx) (n .write) (n .read) ≡ true
 opened c = sym (c .before .is-open .ensures) ∙ not-false _ (c .if1 .left)
 
 says : (c : tie.Else1) → Open (joined (c .before .before .before .args .n) (now (c .before .before .before .args .t)) [] [])

@@ -29,7 +29,7 @@ of c = joined (c .args .n) (now (c .args .t)) (c .args .endpoints) []
 
 -- the reservation
 run : (c : tie.After-run2) → let a = start (c .before .before) .args in
-    (c .before .before .before .is-whole .result ≡ true) × (starts Reserved (a .n .tx .count) (tableOf (now (a .t)) 0) (a .s) ≡ true) × (c .run2 .given .0 .0 ≡ entry (tableOf (now (a .t)) 0) (a .s))
+    (c .before .before .before .is-whole .result ≡ true) × (starts Reserved (a .n .tx .«block_count») (tableOf (now (a .t)) 0) (a .s) ≡ true) × (c .run2 .given .0 .0 ≡ entry (tableOf (now (a .t)) 0) (a .s))
 run c = run-live _ _ _ _ _ (c .before .before .live .ensures) _ (c .run2 .given .1)
 
 part : (c : tie.After-run2) → let a = start (c .before .before) .args in PartIn (a .n .tx) (a .s) (c .run2 .given .0 .0 .count) (a .lent)
@@ -39,7 +39,7 @@ part c =
     let r = run c in
     rw (r .2) (room-part e (a .lent) (a .s) (is-whole e (a .n .tx) (a .lent) _ (c .before .before .before .is-whole .ensures) (r .0)) (r .1))
 
-size : (c : tie.After-run2) → 4 ≤ start (c .before .before) .args .n .tx .size
+size : (c : tie.After-run2) → 4 ≤ start (c .before .before) .args .n .tx .«block_size»
 size c =
     let e = of (start (c .before .before)) in
     let a = start (c .before .before) .args in

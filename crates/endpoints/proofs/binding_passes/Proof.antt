@@ -37,12 +37,12 @@ returns c = search needs
 returns-2 : tie.Need-returns-2
 returns-2 c =
     let a = c .before .before .before .before .before .before .before .before .before .args in
-    holds-it (a .test) (a .count) (a .address) (now (a .name)) (a .b) _ (c .before .before .before .same .ensures) _ (c .before .before .before .before .before .enum-told2 .given .1) (c .before .lies .ensures)
+    holds-it (a .test) (a .block-count) (a .address) (now (a .name)) (a .b) _ (c .before .before .before .same .ensures) _ (c .before .before .before .before .before .enum-told2 .given .1) (c .before .lies .ensures)
 
 returns-3 : tie.Need-returns-3
 returns-3 c =
     let a = c .before .before .before .before .before .before .before .before .args in
-    stored-clash (a .test) (a .count) (a .address) (now (a .name)) (a .b) _ (c .before .same2 .ensures) (c .before .before .before .before .enum-told3 .given .1)
+    stored-clash (a .test) (a .block-count) (a .address) (now (a .name)) (a .b) _ (c .before .same2 .ensures) (c .before .before .before .before .enum-told3 .given .1)
 
 pub binding-passes-spec : {M : Type 1} → statement M
 binding-passes-spec =

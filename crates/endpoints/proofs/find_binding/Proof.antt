@@ -31,7 +31,7 @@ returns : tie.Need-returns Inv-loop μ-loop
 returns c =
     let l = c .before .before .before .before .loop in
     let a = c .before .before .before .before .before .before .args in
-    let h = first-hit (bindingTest (a .test) (a .count) (a .address) (now (a .name))) noBinding _ (a .t1) (l .i) 8 (l .inv .2) (c .before .before .before .loop-test .taken) (sym (c .before .binding-passes .ensures) ∙ c .if1 .taken) in
+    let h = first-hit (bindingTest (a .test) (a .block-count) (a .address) (now (a .name))) noBinding _ (a .t1) (l .i) 8 (l .inv .2) (c .before .before .before .loop-test .taken) (sym (c .before .binding-passes .ensures) ∙ c .if1 .taken) in
     (sym (l .inv .0 ∙ h), search needs)
 
 add-i : tie.Need-add-i Inv-loop μ-loop
@@ -44,14 +44,14 @@ loop-again : tie.Need-loop-again Inv-loop μ-loop
 loop-again c =
     let l = c .before .before .before .before .loop in
     let a = c .before .before .before .before .before .before .args in
-    let h = first-skip (bindingTest (a .test) (a .count) (a .address) (now (a .name))) noBinding _ (a .t1) (l .i) 8 (l .inv .2) (c .before .before .before .loop-test .taken) (sym (c .before .binding-passes .ensures) ∙ c .if1 .left) in
+    let h = first-skip (bindingTest (a .test) (a .block-count) (a .address) (now (a .name))) noBinding _ (a .t1) (l .i) 8 (l .inv .2) (c .before .before .before .loop-test .taken) (sym (c .before .binding-passes .ensures) ∙ c .if1 .left) in
     (l .inv .0 ∙ h, search needs, search needs)
 
 returns-2 : tie.Need-returns-2 Inv-loop μ-loop
 returns-2 c =
     let l = c .before .loop in
     let a = c .before .before .before .args in
-    (sym (l .inv .0 ∙ first-out (bindingTest (a .test) (a .count) (a .address) (now (a .name))) noBinding (a .t1) 8 (l .i) (c .loop-test .left)), tt)
+    (sym (l .inv .0 ∙ first-out (bindingTest (a .test) (a .block-count) (a .address) (now (a .name))) noBinding (a .t1) 8 (l .i) (c .loop-test .left)), tt)
 
 pub find-binding-spec : {M : Type 1} → statement M
 find-binding-spec =

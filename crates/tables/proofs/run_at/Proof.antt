@@ -13,7 +13,7 @@ use Rattle.tables.proofs.run_at.Tie as tie
 returns : tie.Need-returns
 returns c =
     let a = c .before .before .args in
-    starts-beyond (a .u) (a .count) (tableOf (now (a .t)) (a .base)) (a .s) (omega (arith, c .if1 .taken, table-length (now (a .t)) (a .base)))
+    starts-beyond (a .u) (a .block-count) (tableOf (now (a .t)) (a .base)) (a .s) (omega (arith, c .if1 .taken, table-length (now (a .t)) (a .base)))
 
 entry-at-requires : tie.Need-entry-at-requires
 entry-at-requires c κs = search needs
@@ -25,13 +25,13 @@ returns-2 : tie.Need-returns-2
 returns-2 c =
     let a = c .before .before .before .before .before .args in
     let e = c .before .before .entry-at .ensures ∙ sym (table-entry _ (a .base) (a .s) (omega (arith, c .before .before .before .if1 .left))) in
-    (e, ap (λ (x : Entry). startsEntry (a .u) (a .count) x (a .s)) (sym e) ∙ sym (c .before .starts .ensures) ∙ c .if2 .taken)
+    (e, ap (λ (x : Entry). startsEntry (a .u) (a .block-count) x (a .s)) (sym e) ∙ sym (c .before .starts .ensures) ∙ c .if2 .taken)
 
 returns-3 : tie.Need-returns-3
 returns-3 c =
     let a = c .before .before .before .before .before .args in
     let e = c .before .before .entry-at .ensures ∙ sym (table-entry _ (a .base) (a .s) (omega (arith, c .before .before .before .if1 .left))) in
-    ap (λ (x : Entry). startsEntry (a .u) (a .count) x (a .s)) (sym e) ∙ sym (c .before .starts .ensures) ∙ c .if2 .left
+    ap (λ (x : Entry). startsEntry (a .u) (a .block-count) x (a .s)) (sym e) ∙ sym (c .before .starts .ensures) ∙ c .if2 .left
 
 pub run-at-spec : {M : Type 1} → statement M
 run-at-spec = tie.close (tie.spec returns entry-at-requires starts-requires returns-2 returns-3)

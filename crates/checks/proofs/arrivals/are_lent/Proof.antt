@@ -5,27 +5,27 @@ use borrow.Author.Needs.{needs}
 use Rattle.checks.proofs.arrivals.are_lent.Statement.{statement}
 use Rattle.checks.proofs.arrivals.are_lent.Tie as tie
 
-cast-size : tie.Need-cast-size
-cast-size c = search needs
+cast-block-size : tie.Need-cast-block-size
+cast-block-size c = search needs
 
-cast-count : tie.Need-cast-count
-cast-count c = search needs
+cast-block-count : tie.Need-cast-block-count
+cast-block-count c = search needs
 
-cast-blocks : tie.Need-cast-blocks
-cast-blocks c = search needs
+cast-blocks-offset : tie.Need-cast-blocks-offset
+cast-blocks-offset c = search needs
 
 mul-result : tie.Need-mul-result
 mul-result c =
     let g = c .before .before .before .args .g in
-    omega (arith, mul-small (g .count) (g .size) (search needs) (search needs))
+    omega (arith, mul-small (g .«block_count») (g .«block_size») (search needs) (search needs))
 
 add-result : tie.Need-add-result
 add-result c =
     let g = c .before .before .before .args .g in
-    omega (arith, mul-small (g .count) (g .size) (search needs) (search needs))
+    omega (arith, mul-small (g .«block_count») (g .«block_size») (search needs) (search needs))
 
 returns : tie.Need-returns
 returns c = simp (and-pick, pick-same)
 
 pub are-lent-spec : {M : Type 1} → statement M
-are-lent-spec = tie.close (tie.spec cast-size cast-count cast-blocks mul-result add-result returns)
+are-lent-spec = tie.close (tie.spec cast-block-size cast-block-count cast-blocks-offset mul-result add-result returns)

@@ -46,26 +46,26 @@ abbrev start : tie.After-measure → tie.Start
 start c = c .before .before .before .before .before
 
 rule : (c : tie.After-measure) → let a = start c in let e = of a in answer (boundRule e (a .args .address) (a .args .block)) (now (a .args .rx))
-    ≡ passed (placeNumber (length (now (a .args .rx))) (e .rx) (e .held) (a .args .block) (size a)) (withName e (boundNamed e (a .args .address) (a .args .block) (blocksFor (e .rx .size) (size a))) (nameIn (min (size a) 32) (contentAt e (a .args .block)) (now (a .args .rx)))) (refused e)
+    ≡ passed (placeNumber (length (now (a .args .rx))) (e .rx) (e .held) (a .args .block) (size a)) (withName e (boundNamed e (a .args .address) (a .args .block) (blocksFor (e .rx .«block_size») (size a))) (nameIn (min (size a) 32) (contentAt e (a .args .block)) (now (a .args .rx)))) (refused e)
 rule c = let a = start c in bound-measured (of a) (a .args .address) (a .args .block) (now (a .args .rx)) (c .before .before .if1 .left) (c .before .if2 .left) _ (lent-whole (of a) _ (opened a) (a .pre .1))
 
 -- the message, measured: K, its blocks, and the bytes of them
 fits : (c : tie.After-length) → let a = start (c .before .before) in let m = c .length .given .0 in
-    (m .0 ≡ size a) × (m .1 .0 ≡ blocksFor (a .args .n .rx .size) (size a)) × (1 ≤ m .1 .0) × (a .args .block + m .1 .0 ≤ a .args .n .rx .count) × (size a + 4 ≤ m .1 .0 * a .args .n .rx .size)
+    (m .0 ≡ size a) × (m .1 .0 ≡ blocksFor (a .args .n .rx .«block_size») (size a)) × (1 ≤ m .1 .0) × (a .args .block + m .1 .0 ≤ a .args .n .rx .«block_count») × (size a + 4 ≤ m .1 .0 * a .args .n .rx .«block_size»)
 fits c = let a = start (c .before .before) in measured-says _ (a .args .n .rx) (a .args .block) (size a) _ _ (c .before .before .measure .ensures .1) (c .length .given .1)
 
 inside : (c : tie.After-length) → let a = start (c .before .before) .args in
-    (a .n .rx .blocks + a .block * a .n .rx .size + 4 + c .length .given .0 .0 ≤ length (now (a .rx))) × (length (now (a .rx)) ≤ 1048576) × (a .n .rx .count ≤ 256)
+    (a .n .rx .«blocks_offset» + a .block * a .n .rx .«block_size» + 4 + c .length .given .0 .0 ≤ length (now (a .rx))) × (length (now (a .rx)) ≤ 1048576) × (a .n .rx .«block_count» ≤ 256)
 inside c =
     let a = start (c .before .before) in
     let o = open-says (of a) (opened a) .rx in
     let f = fits c in
-    let r = run-inside (a .args .n .align) (a .args .n .rx) (a .args .block) (c .length .given .0 .1 .0) o (f .3) in
+    let r = run-inside (a .args .n .alignment) (a .args .n .rx) (a .args .block) (c .length .given .0 .1 .0) o (f .3) in
     (omega (arith, f .0, f .4, a .pre .1), omega (arith, o .bytes, a .pre .1), o .few)
 
 -- the rule, where the name's length was looked for
 named : (c : tie.After-name-length) → let l = c .before .before .before .before .before in let a = start (l .before .before) in let e = of a in answer (boundRule e (a .args .address) (a .args .block)) (now (a .args .rx))
-    ≡ withName e (boundNamed e (a .args .address) (a .args .block) (blocksFor (e .rx .size) (size a))) (nameOf (c .name-length .result) (now (a .args .rx)) (contentAt e (a .args .block)))
+    ≡ withName e (boundNamed e (a .args .address) (a .args .block) (blocksFor (e .rx .«block_size») (size a))) (nameOf (c .name-length .result) (now (a .args .rx)) (contentAt e (a .args .block)))
 named c =
     let l = c .before .before .before .before .before in
     let a = start (l .before .before) in
@@ -73,7 +73,7 @@ named c =
     let s = now (a .args .rx) in
     let m = c .before .least .ensures .0 ∙ ap (λ (x : ℕ). min x 32) (fits l .0) in
     let g = c .name-length .ensures .0 ∙ ap (λ (x : ℕ). nameIn x (contentAt e (a .args .block)) s) m in
-    rule (l .before .before) ∙ measured-fits _ _ (l .before .before .measure .ensures .0) _ _ _ e (l .length .given .1) ∙ ap (withName e (boundNamed e (a .args .address) (a .args .block) (blocksFor (e .rx .size) (size a)))) (sym g)
+    rule (l .before .before) ∙ measured-fits _ _ (l .before .before .measure .ensures .0) _ _ _ e (l .length .given .1) ∙ ap (withName e (boundNamed e (a .args .address) (a .args .block) (blocksFor (e .rx .«block_size») (size a)))) (sym g)
 
 nameless-requires : tie.Need-nameless-requires
 nameless-requires c κs = search needs

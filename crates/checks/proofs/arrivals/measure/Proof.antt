@@ -22,7 +22,7 @@ says : (c : tie.Else1) → let a = c .before .before .before .before .args in Le
 says c = lent-says _ (c .before .before .before .before .args .g) (lent c)
 
 -- the header lies in the lent bytes
-header : (c : tie.Else2) → let a = c .before .before .before .before .before .before .before .args in a .g .blocks + a .b * a .g .size + 4 ≤ length (now (a .rx))
+header : (c : tie.Else2) → let a = c .before .before .before .before .before .before .before .args in a .g .«blocks_offset» + a .b * a .g .«block_size» + 4 ≤ length (now (a .rx))
 header c = header-inside _ (c .before .before .before .before .before .before .before .args .g) _ (says (c .before .before .before)) (c .if2 .left)
 
 -- K
@@ -32,10 +32,10 @@ size c = c .read-u32 .ensures
 
 -- its blocks lie inside
 need : (c : tie.After-least-blocks) → let a = c .before .before .before .before .before .before .before .before .before .before .before .args in
-    (1 ≤ c .least-blocks .result) × (a .b + c .least-blocks .result ≤ a .g .count) × (c .before .before .read-u32 .result + 4 ≤ c .least-blocks .result * a .g .size)
+    (1 ≤ c .least-blocks .result) × (a .b + c .least-blocks .result ≤ a .g .«block_count») × (c .before .before .read-u32 .result + 4 ≤ c .least-blocks .result * a .g .«block_size»)
 need c = let a = c .before .before .before .before .before .before .before .before .before .before .before .args in need-inside _ (a .g) (a .b) _ _ (says (c .before .before .before .before .before .before .before)) (c .before .before .before .before .if2 .left) (c .before .if3 .left) (c .least-blocks .ensures)
 
-free : (c : tie.After-all-free) → let a = c .before .before .before .before .before .before .before .before .before .before .before .before .args in c .all-free .result ≡ allFree (tableOf (now (a .t)) 1568) (a .b) (blocksFor (a .g .size) (c .before .before .before .read-u32 .result))
+free : (c : tie.After-all-free) → let a = c .before .before .before .before .before .before .before .before .before .before .before .before .args in c .all-free .result ≡ allFree (tableOf (now (a .t)) 1568) (a .b) (blocksFor (a .g .«block_size») (c .before .before .before .read-u32 .result))
 free c = let a = c .before .before .before .before .before .before .before .before .before .before .before .before .args in c .all-free .ensures ∙ ap (allFree (tableOf (now (a .t)) 1568) (a .b)) (c .before .least-blocks .ensures)
 
 are-lent-requires : tie.Need-are-lent-requires
@@ -46,11 +46,11 @@ returns c =
     let a = c .before .before .before .before .args in
     (not-lent (length (now (a .rx))) (a .g) (tableOf (now (a .t)) 1568) (a .b) (sizeAt (a .g) (a .b) (now (a .rx))) (sym (c .before .are-lent .ensures) ∙ not-true _ (c .if1 .taken)), tt)
 
-cast-count : tie.Need-cast-count
-cast-count c = search needs
+cast-block-count : tie.Need-cast-block-count
+cast-block-count c = search needs
 
-cast-size : tie.Need-cast-size
-cast-size c = search needs
+cast-block-size : tie.Need-cast-block-size
+cast-block-size c = search needs
 
 returns-2 : tie.Need-returns-2
 returns-2 c =
@@ -112,8 +112,8 @@ measure-spec =
     (tie.spec
     are-lent-requires
     returns
-    cast-count
-    cast-size
+    cast-block-count
+    cast-block-size
     returns-2
     cast-read-u32
     mul-read-u32

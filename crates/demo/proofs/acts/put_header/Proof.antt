@@ -21,17 +21,17 @@ cast-at-2 c = search needs
 mul-at : tie.Need-mul-at
 mul-at c =
     let a = c .before .before .args in
-    omega (arith, product (a .block) (a .g .size) (omega arith) (omega arith))
+    omega (arith, product (a .block) (a .g .«block_size») (omega arith) (omega arith))
 
 add-at : tie.Need-add-at
 add-at c =
     let a = c .before .before .args in
-    omega (arith, product (a .block) (a .g .size) (omega arith) (omega arith))
+    omega (arith, product (a .block) (a .g .«block_size») (omega arith) (omega arith))
 
 add-if1 : tie.Need-add-if1
 add-if1 c =
     let a = c .before .before .args in
-    omega (arith, product (a .block) (a .g .size) (omega arith) (omega arith))
+    omega (arith, product (a .block) (a .g .«block_size») (omega arith) (omega arith))
 
 write-u32-requires : tie.Need-write-u32-requires
 write-u32-requires c κs = search needs

@@ -26,11 +26,11 @@ of c = joined (c .args .numbers) (now (c .args .tables)) (c .args .endpoints) (c
 lent : (c : tie.Else1) → let a = c .before .before .before .before .before .args in whole (of (c .before .before .before .before .before)) (a .numbers .rx) (length (now (a .rx))) ≡ true
 lent c = let a = c .before .before .before .before .before in is-whole (of a) (a .args .numbers .rx) (length (now (a .args .rx))) _ (c .before .is-whole .ensures) (not-false _ (c .if1 .left))
 
-opened : (c : tie.Else1) → let a = c .before .before .before .before .before .args in let n = a .numbers in (openNumbers (n .align) (n .tx) (n .rx) (n .write) (n .read) ≡ true) × (length (now (a .rx)) ≡ n .rx .bytes)
+opened : (c : tie.Else1) → let a = c .before .before .before .before .before .args in let n = a .numbers in (openNumbers (n .alignment) (n .tx) (n .rx) (n .write) (n .read) ≡ true) × (length (now (a .rx)) ≡ n .rx .length)
 opened c =
     let a = c .before .before .before .before .before .args in
     let w = both _ _ (sym (c .before .is-whole .ensures) ∙ not-false _ (c .if1 .left)) in
-    (w .0, eqb-true (length (now (a .rx))) (a .numbers .rx .bytes) (w .1))
+    (w .0, eqb-true (length (now (a .rx))) (a .numbers .rx .length) (w .1))
 
 is-whole-requires : tie.Need-is-whole-requires
 is-whole-requires c κs = search needs

@@ -32,7 +32,7 @@ opened : (c : tie.After-is-open) (ps : List Endpoint) (bs : List Binding) → c 
 opened c ps bs = open-is (of (c .before .before) ps bs) _ (c .is-open .ensures)
 
 run : (c : tie.After-x2) → let a = c .before .before .before .before .before .before .args in
-    (c .before .before .before .before .is-open .result ≡ true) × (startsData (a .numbers .rx .count) (a .numbers .rx .size) (tableOf (now (a .tables)) 1568) (a .start) ≡ true) × (c .x2 .given .0 .0 ≡ entry (tableOf (now (a .tables)) 1568) (a .start))
+    (c .before .before .before .before .is-open .result ≡ true) × (startsData (a .numbers .rx .«block_count») (a .numbers .rx .«block_size») (tableOf (now (a .tables)) 1568) (a .start) ≡ true) × (c .x2 .given .0 .0 ≡ entry (tableOf (now (a .tables)) 1568) (a .start))
 run c = run-live _ _ _ _ _ (c .before .before .received .ensures) _ (c .x2 .given .1)
 
 ends : (c : tie.After-x2) → (c .before .before .before .before .before .before .args .start < 256) × (c .before .before .before .before .before .before .args .start + c .x2 .given .0 .0 .count ≤ 256)
@@ -40,7 +40,7 @@ ends c =
     let a = c .before .before .before .before .before .before in
     let r = run c in
     let e = of a [] [] in
-    let d = data-run (e .rx .count) (e .rx .size) (e .held) (a .args .start) (r .1) .0 in
+    let d = data-run (e .rx .«block_count») (e .rx .«block_size») (e .held) (a .args .start) (r .1) .0 in
     let f = open-says e (sym (opened (c .before .before .before .before) [] []) ∙ r .0) .rx .few in
     rw (r .2) (omega (arith, d .below, f), omega (arith, d .ends, f))
 

@@ -30,7 +30,7 @@ opened : (c : tie.After-is-open) (ps : List Endpoint) (bs : List Binding) → c 
 opened c ps bs = open-is (of (c .before .before) ps bs) _ (c .is-open .ensures)
 
 run : (c : tie.After-run2) → let a = c .before .before .before .before .before .before .args in
-    (c .before .before .before .before .is-open .result ≡ true) × (starts Reserved (a .numbers .tx .count) (tableOf (now (a .tables)) 0) (a .start) ≡ true) × (c .run2 .given .0 .0 ≡ entry (tableOf (now (a .tables)) 0) (a .start))
+    (c .before .before .before .before .is-open .result ≡ true) × (starts Reserved (a .numbers .tx .«block_count») (tableOf (now (a .tables)) 0) (a .start) ≡ true) × (c .run2 .given .0 .0 ≡ entry (tableOf (now (a .tables)) 0) (a .start))
 run c = run-live _ _ _ _ _ (c .before .before .live .ensures) _ (c .run2 .given .1)
 
 ends : (c : tie.After-run2) → c .before .before .before .before .before .before .args .start + c .run2 .given .0 .0 .count ≤ 256
@@ -38,7 +38,7 @@ ends c =
     let a = c .before .before .before .before .before .before in
     let r = run c in
     let e = of a [] [] in
-    rw (r .2) (omega (arith, run-of Reserved (e .tx .count) (e .sent) (a .args .start) (r .1) .ends, open-says e (sym (opened (c .before .before .before .before) [] []) ∙ r .0) .tx .few))
+    rw (r .2) (omega (arith, run-of Reserved (e .tx .«block_count») (e .sent) (a .args .start) (r .1) .ends, open-says e (sym (opened (c .before .before .before .before) [] []) ∙ r .0) .tx .few))
 
 is-open-requires : tie.Need-is-open-requires
 is-open-requires c κs = search needs

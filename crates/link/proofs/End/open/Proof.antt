@@ -10,11 +10,11 @@ use Rattle.link.proofs.End.open.Tie as tie
 
 -- what the code needs of the two regions
 tx-laid : (c : tie.After-t) → let o = c .before .before .before .before .before .args .o in let y = c .t .given .0 .0 in
-    (o .tx .begin ≤ o .tx .end) × (o .tx .begin ≤ y .begin) × (o .tx .begin ≤ y .blocks) × (o .tx .blocks < 65536) × (o .align < 65536)
+    (o .tx .begin ≤ o .tx .end) × (o .tx .begin ≤ y .begin) × (o .tx .begin ≤ y .«blocks_begin») × (o .tx .«block_count» < 65536) × (o .alignment < 65536)
 tx-laid c = laid-out (c .before .before .before .before .before .args .o .tx) _ _ _ (c .before .before .layout .ensures) _ (c .t .given .1)
 
 rx-laid : (c : tie.After-r) → let o = c .before .before .before .before .before .before .before .before .before .args .o in let y = c .r .given .0 .0 in
-    (o .rx .begin ≤ o .rx .end) × (o .rx .begin ≤ y .begin) × (o .rx .begin ≤ y .blocks) × (o .rx .blocks < 65536) × (o .align < 65536)
+    (o .rx .begin ≤ o .rx .end) × (o .rx .begin ≤ y .begin) × (o .rx .begin ≤ y .«blocks_begin») × (o .rx .«block_count» < 65536) × (o .alignment < 65536)
 rx-laid c = laid-out (c .before .before .before .before .before .before .before .before .before .args .o .rx) _ _ _ (c .before .before .layout2 .ensures) _ (c .r .given .1)
 
 layout-requires : tie.Need-layout-requires

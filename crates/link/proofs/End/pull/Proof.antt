@@ -74,9 +74,9 @@ returns-2 c = all-of-three (λ t ps bs.
     let b = length (now (a .buffer)) in
     let e = of (c .before .before .before .before .before .before .before .before .before .before .before .before .before .before) t ps bs in
     let r = ap (λ (g : Ring). answer (ringPull (length (now (a .rx))) g (a .numbers .read) b) (now (a .rx))) (c .before .before .before .before .before .before .before .before .ring-of .ensures) in
-    let o : RingOutcome = answer (ringPull (length (now (a .rx))) (ringOf (a .numbers .align) (a .numbers .rx)) (a .numbers .read) b) (now (a .rx)) in
+    let o : RingOutcome = answer (ringPull (length (now (a .rx))) (ringOf (a .numbers .alignment) (a .numbers .rx)) (a .numbers .read) b) (now (a .rx)) in
     let p = c .before .before .before .before .before .before .pull .ensures in
-    let w = pull-told o (λ n h. refusals .pull (length (now (a .rx))) (ringOf (a .numbers .align) (a .numbers .rx)) (a .numbers .read) b (now (a .rx)) n h .1) _
+    let w = pull-told o (λ n h. refusals .pull (length (now (a .rx))) (ringOf (a .numbers .alignment) (a .numbers .rx)) (a .numbers .read) b (now (a .rx)) n h .1) _
     (p .0 ∙ ap (λ (x : RingOutcome). x .answer) r) (c .told .result) (c .told .ensures .0) (c .told .ensures .1) _ e _ (lent (c .before .before .before .before .before .before .before .before .before .before) t ps bs) (c .before .own-index .ensures) in
     rw (pull-answer e (length (now (a .rx))) b (now (a .rx)))
     (w .0, (p .1 .0 ∙ ap (λ (x : RingOutcome). wrote (now (a .rx)) (x .region)) r ∙ ap (wrote (now (a .rx))) (w .1), p .1 .1 ∙ ap (λ (x : RingOutcome). wrote (now (a .buffer)) (x .buffer)) r ∙ ap (wrote (now (a .buffer))) (w .2))))

@@ -45,7 +45,7 @@ unfolding pushOf
 returns c = each-of-three (λ t ps bs.
     let a = c .before .before .before .before .before .args in
     let e = of (c .before .before .before .before .before) t ps bs in
-    let r = ring-6 e _ (pushed e (ringPush (now (a .tx)) (ringOf (a .numbers .align) (a .numbers .tx)) (a .numbers .write) (now (a .content)))) (λ o. o .tx) (now (a .tx)) (not-whole e (a .numbers .tx) (length (now (a .tx))) _ (c .before .before .is-whole .ensures) (not-true _ (c .before .if1 .taken))) refl in
+    let r = ring-6 e _ (pushed e (ringPush (now (a .tx)) (ringOf (a .numbers .alignment) (a .numbers .tx)) (a .numbers .write) (now (a .content)))) (λ o. o .tx) (now (a .tx)) (not-whole e (a .numbers .tx) (length (now (a .tx))) _ (c .before .before .is-whole .ensures) (not-true _ (c .before .if1 .taken))) refl in
     (ring-refused (c .refused .result) (a .numbers) t ps bs (c .refused .ensures) ∙ r .0, r .1))
 
 ring-of-requires : tie.Need-ring-of-requires
@@ -68,9 +68,9 @@ unfolding pushOf changed
 returns-2 c = each-of-three (λ t ps bs.
     let a = c .before .before .before .before .before .before .before .before .before .before .before .args in
     let r = ap (λ (g : Ring). ringPush (now (a .tx)) g (a .numbers .write) (now (a .content))) (c .before .before .before .before .before .ring-of .ensures) in
-    let o : RingOutcome = ringPush (now (a .tx)) (ringOf (a .numbers .align) (a .numbers .tx)) (a .numbers .write) (now (a .content)) in
+    let o : RingOutcome = ringPush (now (a .tx)) (ringOf (a .numbers .alignment) (a .numbers .tx)) (a .numbers .write) (now (a .content)) in
     let p = c .before .before .before .before .push .ensures in
-    let w = push-told o (λ n h. refusals .push (now (a .tx)) (ringOf (a .numbers .align) (a .numbers .tx)) (a .numbers .write) (now (a .content)) n h .1) _
+    let w = push-told o (λ n h. refusals .push (now (a .tx)) (ringOf (a .numbers .alignment) (a .numbers .tx)) (a .numbers .write) (now (a .content)) n h .1) _
     (p .0 ∙ ap (λ (x : RingOutcome). x .answer) r) (c .told .result) (c .told .ensures .0) (c .told .ensures .1) _ (of (c .before .before .before .before .before .before .before .before .before .before .before) t ps bs) _ (lent (c .before .before .before .before .before .before .before) t ps bs) (c .before .own-index .ensures) in
     (w .0, p .1 ∙ ap (λ (x : RingOutcome). wrote (now (a .tx)) (x .region)) r ∙ ap (wrote (now (a .tx))) (w .1)))
 

@@ -28,7 +28,7 @@ lent : (c : tie.After-is-whole) (ps : List Endpoint) (bs : List Binding) → let
 lent c ps bs = let a = c .before .args in whole-is (of (c .before) ps bs) (a .numbers .tx) (a .lent) _ (c .is-whole .ensures)
 
 run : (c : tie.After-run2) → let a = c .before .before .before .before .before .args in
-    (c .before .before .before .before .is-whole .result ≡ true) × (starts Reserved (a .numbers .tx .count) (tableOf (now (a .tables)) 0) (a .start) ≡ true) × (c .run2 .given .0 .0 ≡ entry (tableOf (now (a .tables)) 0) (a .start))
+    (c .before .before .before .before .is-whole .result ≡ true) × (starts Reserved (a .numbers .tx .«block_count») (tableOf (now (a .tables)) 0) (a .start) ≡ true) × (c .run2 .given .0 .0 ≡ entry (tableOf (now (a .tables)) 0) (a .start))
 run c = run-live _ _ _ _ _ (c .before .before .live .ensures) _ (c .run2 .given .1)
 
 part : (c : tie.After-run2) → let a = c .before .before .before .before .before .args in PartIn (a .numbers .tx) (a .start) (c .run2 .given .0 .0 .count) (a .lent)

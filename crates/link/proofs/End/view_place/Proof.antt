@@ -27,7 +27,7 @@ lent : (c : tie.After-is-whole) (ps : List Endpoint) (bs : List Binding) → let
 lent c ps bs = let a = c .before .args in whole-is (of (c .before) ps bs) (a .numbers .rx) (a .lent) _ (c .is-whole .ensures)
 
 run : (c : tie.After-x2) → let a = c .before .before .before .before .before .args in
-    (c .before .before .before .before .is-whole .result ≡ true) × (startsData (a .numbers .rx .count) (a .numbers .rx .size) (tableOf (now (a .tables)) 1568) (a .start) ≡ true) × (c .x2 .given .0 .0 ≡ entry (tableOf (now (a .tables)) 1568) (a .start))
+    (c .before .before .before .before .is-whole .result ≡ true) × (startsData (a .numbers .rx .«block_count») (a .numbers .rx .«block_size») (tableOf (now (a .tables)) 1568) (a .start) ≡ true) × (c .x2 .given .0 .0 ≡ entry (tableOf (now (a .tables)) 1568) (a .start))
 run c = run-live _ _ _ _ _ (c .before .before .received .ensures) _ (c .x2 .given .1)
 
 part : (c : tie.After-x2) → let a = c .before .before .before .before .before .args in PartIn (a .numbers .rx) (a .start) (c .x2 .given .0 .0 .count) (a .lent)

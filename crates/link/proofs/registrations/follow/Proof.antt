@@ -20,14 +20,14 @@ use Rattle.tables.proofs.free_run.Reads as free-run-reads
 place : (c : tie.After-place) → c .place .given .0 .0 + 1 ≤ 8
 place c = at-below _ 1 8 _ (c .before .before .find-binding .ensures .1) (c .place .given .1)
 
-found : (c : tie.After-place) → let a = c .before .before .before .before .before .args in bindingAt (bindingTest Holds (a .n .rx .count) 0 (a .t4)) (a .t3) ≡ foundAt (c .place .given .0 .0)
+found : (c : tie.After-place) → let a = c .before .before .before .before .before .args in bindingAt (bindingTest Holds (a .n .rx .«block_count») 0 (a .t4)) (a .t3) ≡ foundAt (c .place .given .0 .0)
 found c = ends-at _ _ (c .before .before .find-binding .ensures .0) _ (c .place .given .1)
 
 stored : (c : tie.After-place) (d : Binding) → let a = c .before .before .before .before .before .args in let b = getD (a .t3) (c .place .given .0 .0) d in (b ≡ getD (a .t3) (c .place .given .0 .0) noBinding) × (b .start < 256) × (b .start + b .count ≤ 256)
 stored c d =
     let a = c .before .before .before .before .before in
     let n : length (a .args .t3) ≡ 8 = search needs in
-    holds-says (a .args .t3) (a .args .n .rx .count) 0 (a .args .t4) (c .place .given .0 .0) d (found c) (omega (arith, place c, n)) (tx-sound (a .args .n) (a .pre .0) .1 .few)
+    holds-says (a .args .t3) (a .args .n .rx .«block_count») 0 (a .args .t4) (c .place .given .0 .0) d (found c) (omega (arith, place c, n)) (tx-sound (a .args .n) (a .pre .0) .1 .few)
 
 slice-aggregate-find-binding : tie.Need-slice-aggregate-find-binding
 slice-aggregate-find-binding c = search needs

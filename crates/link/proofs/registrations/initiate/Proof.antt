@@ -24,14 +24,14 @@ start c = c .before .before .before .before .before
 short : (c : tie.Start) → length (now (c .args .name)) ≤ 31
 short c = good-length (now (c .args .name)) (c .pre .2) .1
 
-sound : (c : tie.Start) → Sound (c .args .n .align) (c .args .n .tx)
+sound : (c : tie.Start) → Sound (c .args .n .alignment) (c .args .n .tx)
 sound c = tx-sound (c .args .n) (c .pre .0) .0
 
 -- the blocks that were found
-fits : (c : tie.After-start) → let a = start (c .before .before) .args in let m = c .start .given .0 in (m .1 .0 ≡ blocksFor (a .n .tx .size) (length (now (a .name)) + 1)) × (1 ≤ m .1 .0) × (m .0 + m .1 .0 ≤ a .n .tx .count)
+fits : (c : tie.After-start) → let a = start (c .before .before) .args in let m = c .start .given .0 in (m .1 .0 ≡ blocksFor (a .n .tx .«block_size») (length (now (a .name)) + 1)) × (1 ≤ m .1 .0) × (m .0 + m .1 .0 ≤ a .n .tx .«block_count»)
 fits c = let a = start (c .before .before) .args in initiate-fits (a .n) (now (a .t)) (now (a .name)) _ (c .before .before .fit .ensures) _ _ (c .start .given .1)
 
-inside : (c : tie.After-start) → let a = start (c .before .before) .args in (a .n .tx .blocks + c .start .given .0 .0 * a .n .tx .size + (length (now (a .name)) + 1) + 4 ≤ length (now (a .tx))) × (length (now (a .tx)) ≤ 1048576)
+inside : (c : tie.After-start) → let a = start (c .before .before) .args in (a .n .tx .«blocks_offset» + c .start .given .0 .0 * a .n .tx .«block_size» + (length (now (a .name)) + 1) + 4 ≤ length (now (a .tx))) × (length (now (a .tx)) ≤ 1048576)
 inside c = let a = start (c .before .before) in let f = fits c in announcement-inside (a .args .n) (length (now (a .args .name)) + 1) (c .start .given .0 .0) _ _ (sound a) (f .0) (f .2) (a .pre .1)
 
 cast-k : tie.Need-cast-k
