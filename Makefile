@@ -11,6 +11,7 @@ CFLAGS = -std=c99 -O2 -Wall -Wextra -Wpedantic -Werror -Iinclude
 MINUTES = 10
 SEED =
 FILE =
+NUMBERS =
 panel = target/staticlib/libpanel.a
 script = target/staticlib/libscript.a
 rounds = target/staticlib/librounds.a
@@ -40,8 +41,8 @@ script_main: target/bin/script_main ## the program that runs a call script from 
 script: need-file second ## a call script, FILE=path, on the proved code and on the second program, in words
 	@$(compared) script $(FILE)
 
-region: need-file second ## a dump of a region, FILE=path, in words
-	@$(compared) region $(FILE)
+region: need-file second ## a dump of a region, FILE=path, in words; NUMBERS="--begin N .." where it is not the example's (second --help)
+	@$(compared) region $(FILE) $(NUMBERS)
 
 need-file:
 	@test -n "$(FILE)" || { echo "say which file: FILE=path"; exit 2; }

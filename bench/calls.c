@@ -27,7 +27,7 @@ struct scene {
 
 /* The fields of the proved end, as crates/link declares it and crates/icbmsg its numbers, for its size. */
 struct proved_region {
-    uint32_t length, ring_at, data_length, blocks_at;
+    uint32_t length, ring_offset, data_length, blocks_offset;
     uint16_t block_count;
     uint32_t block_size;
 };
@@ -179,7 +179,7 @@ static struct scene scene_of(uint32_t length, uint32_t tx_blocks, uint32_t rx_bl
         exit(1);
     }
     memset(rx, 0, sizeof rx);
-    store(rx + end->rx.blocks_at, 8);
+    store(rx + end->rx.blocks_offset, 8);
     return scene;
 }
 

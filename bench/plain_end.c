@@ -103,7 +103,7 @@ uint32_t plain_send(struct plain_end *end, uint8_t *tx, size_t tx_length, uint32
         return 15;
     if ((uint64_t)k + HEADER > run->count * end->tx.block_size)
         return 23;
-    store(tx + end->tx.blocks_at + start * end->tx.block_size, k);
+    store(tx + end->tx.blocks_offset + start * end->tx.block_size, k);
     uint32_t n = blocks_for(&end->tx, k);
     free_run(end->sent, start + n, run->count - n);
     *run = (struct plain_entry){SENT_DATA, (uint8_t)address, (uint16_t)n, k};
@@ -135,7 +135,7 @@ static uint32_t measure(const struct plain_end *end, const uint8_t *rx, uint8_t 
     const struct plain_region *region = &end->rx;
     if (block >= region->block_count)
         return 16;
-    *k = load(rx + region->blocks_at + block * region->block_size);
+    *k = load(rx + region->blocks_offset + block * region->block_size);
     if ((uint64_t)*k + HEADER > (region->block_count - block) * region->block_size)
         return 17;
     *count = blocks_for(region, *k);
@@ -207,7 +207,7 @@ static uint32_t binding_arrives(struct plain_end *end, const uint8_t *rx, uint8_
     uint32_t number = measure(end, rx, block, &k, &count);
     if (number)
         return number;
-    const uint8_t *text = rx + end->rx.blocks_at + block * end->rx.block_size + HEADER;
+    const uint8_t *text = rx + end->rx.blocks_offset + block * end->rx.block_size + HEADER;
     const uint8_t *zero = memchr(text, 0, k < PLAIN_NAME ? k : PLAIN_NAME);
     if (!zero || zero == text)
         return 20;
@@ -301,7 +301,7 @@ static uint32_t initiate(struct plain_end *end, struct plain_endpoint *e, uint8_
     e->stage = WAITING;
     memcpy(e->name, name, PLAIN_NAME);
     take_run(end->sent, start, count, SENT_BINDING, e->address, k);
-    uint8_t *message = tx + end->tx.blocks_at + start * end->tx.block_size;
+    uint8_t *message = tx + end->tx.blocks_offset + start * end->tx.block_size;
     store(message, k);
     memcpy(message + HEADER, name, k);
     *outcome = (struct plain_outcome){PLAIN_CONTROL, 2, e->address, (uint8_t)start, 0};

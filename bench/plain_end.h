@@ -19,7 +19,7 @@ struct plain_entry {
 
 struct plain_region {
     uint32_t length;
-    uint32_t blocks_at;
+    uint32_t blocks_offset;
     uint32_t block_count;
     uint32_t block_size;
 };

@@ -6,9 +6,9 @@
 
 /* Where ring and blocks lie, counted from the region's begin. */
 struct plain_layout {
-    uint32_t ring_at;
+    uint32_t ring_offset;
     uint32_t data_length;
-    uint32_t blocks_at;
+    uint32_t blocks_offset;
     uint32_t block_size;
 };
 
@@ -30,9 +30,9 @@ static inline uint32_t plain_layout(uint32_t begin, uint32_t end, uint32_t local
     uint32_t block_size = (uint32_t)(last - first - minimum) / local_blocks & ~(alignment - 1);
     if (block_size == 0)
         return 4;
-    layout->ring_at = (uint32_t)(first - begin);
+    layout->ring_offset = (uint32_t)(first - begin);
     layout->data_length = (uint32_t)(last - first) - local_blocks * block_size - (alignment + 4);
-    layout->blocks_at = (uint32_t)(last - begin) - local_blocks * block_size;
+    layout->blocks_offset = (uint32_t)(last - begin) - local_blocks * block_size;
     layout->block_size = block_size;
     return 0;
 }

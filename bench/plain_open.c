@@ -10,7 +10,7 @@ static uint32_t lay_out(struct plain_region *region, struct plain_bounds bounds,
     uint32_t number = plain_layout(bounds.begin, bounds.end, bounds.block_count, remote_blocks, alignment, &layout);
     if (number)
         return number;
-    *region = (struct plain_region){bounds.end - bounds.begin, layout.blocks_at, bounds.block_count, layout.block_size};
+    *region = (struct plain_region){bounds.end - bounds.begin, layout.blocks_offset, bounds.block_count, layout.block_size};
     return 0;
 }
 

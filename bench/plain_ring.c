@@ -20,7 +20,7 @@ static uint32_t open_ring(uint32_t begin, uint32_t end, uint32_t local_blocks, u
     uint32_t number = plain_layout(begin, end, local_blocks, remote_blocks, alignment, &layout);
     if (number)
         return number;
-    ring->read_index = region + layout.ring_at;
+    ring->read_index = region + layout.ring_offset;
     ring->write_index = ring->read_index + alignment;
     ring->data = ring->write_index + 4;
     ring->data_length = layout.data_length;
