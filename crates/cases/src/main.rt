@@ -1,4 +1,4 @@
-// The bench case of 01 that no theorem holds: "An empty ring with 64 data bytes takes seven such packets; the eighth is 10."
+// T11 of docs/RULES.md, the bench case that no theorem holds: a ring with 64 data bytes has space for seven packets and not for an eighth.
 use icbmsg::Bounds;
 use icbmsg::Opening;
 use lines::Line;

@@ -1,4 +1,4 @@
--- Endpoints and stored bindings, by name and address.
+-- Endpoints and stored bindings, by name and address (docs/RULES.md, E).
 use Prim.Native.Nat.{ℕ, zero, suc}
 use mathlib.Core.Bool.{Bool, true, false, not, _&&_, _||_}
 use mathlib.Core.Path.{_≡_}
@@ -68,14 +68,14 @@ waitingAt a p = at isWaiting p && eqb (p .address) a
 abbrev pub holds : ℕ → List ℕ → Binding → Bool
 holds c n b = all (b .stored ∷ same (b .name) (paddedName n) ∷ lies c (b .start) (b .count) ∷ [])
 
--- an arriving binding's address or name belongs to these
+-- 21: an arriving binding's address or name belongs to these
 abbrev pub clashes : ℕ → List ℕ → Endpoint → Bool
 clashes a n p = at isBound p && (eqb (p .address) a || named n p)
 
 abbrev pub clashesStored : ℕ → List ℕ → Binding → Bool
 clashesStored a n b = b .stored && (eqb (b .address) a || same (b .name) (paddedName n))
 
--- the lowest of the eight that passes
+-- S4, E10: the lowest of the eight that passes
 abbrev pub endpointAt : (Endpoint → Bool) → List Endpoint → Search
 endpointAt f ps = firstFrom f noEndpoint ps 8 0
 
@@ -97,12 +97,12 @@ boundNow ps a (foundAt i) = set ps i (record { stage = Bound; address = a; name 
 abbrev pub uses : ℕ → Endpoint → Bool
 uses a p = not (at isUnused p) && eqb (p .address) a
 
--- the lowest address from a on that no endpoint uses, at most f of them passed over
+-- E2: the lowest address from a on that no endpoint uses, at most f of them passed over
 unfoldable pub unusedFrom : ℕ → ℕ → List Endpoint → ℕ
 unusedFrom zero a ps = a
 unusedFrom (suc f) a ps = pick (someEndpoint (uses a) ps) (unusedFrom f (suc a) ps) a
 
--- 1 to 31 bytes, none zero
+-- S5: 1 to m bytes, none zero
 unfoldable pub goodName : ℕ → List ℕ → Bool
 goodName m n = leb 1 (length n) && leb (length n) m && not (any (λ b. eqb b 0) n)
 

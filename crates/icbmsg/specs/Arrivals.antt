@@ -1,4 +1,4 @@
--- The rules of arriving control messages (01, "Arriving control messages" and "Binding").
+-- The rules of arriving control messages (docs/RULES.md, A and E).
 use Prim.Native.Nat.{ℕ, zero, suc, _+_, _-_, _*_, min}
 use mathlib.Core.Bool.{Bool, true, not, _&&_}
 use mathlib.Core.List.{List, [], _∷_}
@@ -22,7 +22,7 @@ use Rattle.icbmsg.specs.declared.Control.the-variants.{TooShort, Unknown
 use Rattle.icbmsg.specs.declared.Region.{Region}
 use Rattle.icbmsg.specs.End.{End}
 
--- "Only the first three bytes are used." "Empty: 12. First byte above 3: 13. Known kind with under three bytes: 12"
+-- A1: three bytes count. A first byte above 3 is 13; of the others, what is shorter is 12
 abbrev pub kind : ℕ → ℕ → ℕ → Control
 kind k a b = pick (eqb k 0) (DataSent a b) (pick (eqb k 1) (DataReleased b) (pick (eqb k 2) (BindingSent a b) (BindingReleased a b)))
 
@@ -39,14 +39,14 @@ headerAt g b = positions (straight (blockAt g b)) 4
 abbrev pub sizeAt : Region → ℕ → List ℕ → ℕ
 sizeAt g b r = fromLittleEndian (bytesAt r (headerAt g b))
 
--- 17: K + 4 ends with the last block. 18: its blocks are free
+-- refusal 17: K + 4 ends with the last block. Refusal 18: its blocks are free
 abbrev pub fitsArea : Region → ℕ → ℕ → Bool
 fitsArea g b k = leb (k + 4) ((g .«block_count» - b) * g .«block_size»)
 
 abbrev pub areFree : List Entry → Region → ℕ → ℕ → Bool
 areFree t g b k = allFree t b (blocksFor (g .«block_size») k)
 
--- kind 0: "14, 15, 16, 17, 18"; "start, count and K recorded". "The size is read once, at arrival"
+-- A2, kind 0, checks 14, 15, 16, 17, 18: its run is taken, with address and K. A7: its size is read here and never again
 unfoldable pub dataRule : End → ℕ → ℕ → Rule
 dataRule e a b =
     guard (leb a 0xFD) 14 e
@@ -57,14 +57,14 @@ dataRule e a b =
     (guard (areFree (e .held) (e .rx) b k) 18 e
     (gives (accepted (withHeld e (taken (e .held) ReceivedData b (blocksFor (e .rx .«block_size») k) a k)) (delivery a b k))))))))
 
--- kind 1: "16, 25"; "frees a sent data message". "A partner's release frees the count recorded privately"
+-- A3, kind 1, checks 16, 25: sent data is freed. B7: by the count in its entry
 unfoldable pub releaseOf : End → ℕ → Outcome
 releaseOf e b =
     check (ltb b (e .tx .«block_count»)) 16 e
     (check (starts SentData (e .tx .«block_count») (e .sent) b) 25 e
     (accepted (withSent e (freed (e .sent) b (entry (e .sent) b .count))) nothing))
 
--- kind 3: "14, 16, 25"; "frees a sent binding of that address; its endpoint is bound"
+-- A5, kind 3, checks 14, 16, 25: the sent binding is freed, and the endpoint that waits at its address is bound
 unfoldable pub releasedBoundOf : End → ℕ → ℕ → Outcome
 releasedBoundOf e a b =
     check (leb a 0xFD) 14 e
@@ -75,7 +75,7 @@ releasedBoundOf e a b =
     (boundNow (e .endpoints) a (endpointAt (waitingAt a) (e .endpoints))) (e .bindings))
     nothing)))
 
--- "else name, address, start and count are stored, not K, and its blocks are held": n blocks, the padded name, at place j
+-- E8: the binding is stored at place j, with its padded name and no K, and its n blocks are held
 abbrev pub bindingStored : End → ℕ → ℕ → ℕ → List ℕ → ℕ → Outcome
 bindingStored e a b n kept j =
     accepted
@@ -86,7 +86,7 @@ bindingStored e a b n kept j =
 abbrev pub storedAt : End → ℕ → ℕ → ℕ → List ℕ → Outcome
 storedAt e a b n kept = foundOr 22 e (bindingStored e a b n kept) (bindingAt (λ x. not (x .stored)) (e .bindings))
 
--- "If a waiting endpoint has the name, it is bound with the same answer"
+-- E7: the endpoint that waits for the name is bound, and 03 address start is for the partner; where none waits, E8
 abbrev pub boundTo : End → ℕ → ℕ → ℕ → List ℕ → Search → Outcome
 boundTo e a b n name nowhere = storedAt e a b n (paddedName name)
 boundTo e a b n name (foundAt i) =
@@ -99,7 +99,7 @@ boundNamed e a b n name =
     (check (not (someEndpoint (clashes a name) (e .endpoints)) && not (someBinding (clashesStored a name) (e .bindings))) 21 e
     (boundTo e a b n name (endpointAt (waitingFor name) (e .endpoints))))
 
--- "name ends at its first zero byte inside K, among its first 32 bytes": of at most n bytes from p on; 20 where none is zero
+-- E6: the name as far as its first zero, of at most n bytes from p on; 20 where none is zero
 abbrev pub upToZero : End → ℕ → ℕ → (List ℕ → Rule) → Rule
 upToZero e zero p k = gives (refused e 20)
 upToZero e (suc n) p k = reads p (λ c. pick (eqb c 0) (k []) (upToZero e n (suc p) (λ cs. k (c ∷ cs))))
@@ -111,7 +111,7 @@ boundSized e a b k =
     (guard (areFree (e .held) (e .rx) b k) 18 e
     (upToZero e (min k 32) (blockAt (e .rx) b + 4) (λ name. gives (boundNamed e a b (blocksFor (e .rx .«block_size») k) name))))
 
--- kind 2: "19, 14, 16, 17, 18, 20, 21, 22"
+-- A4, kind 2, checks 19, 14, 16, and behind them 17, 18, 20, 21, 22
 unfoldable pub boundRule : End → ℕ → ℕ → Rule
 boundRule e a b =
     guard (not (e .initiator)) 19 e

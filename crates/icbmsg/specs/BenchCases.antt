@@ -1,4 +1,4 @@
--- The starred bench cases of 01, and the two ends that their calls are made on.
+-- The starred bench cases (docs/RULES.md, T1 to T10), and the two ends that their calls are made on.
 use Prim.Native.Nat.{ℕ}
 use mathlib.Core.Path.{_≡_}
 use mathlib.Core.List.{List, [], _∷_, _++_, map}
@@ -25,8 +25,8 @@ example = 101 ∷ 120 ∷ 97 ∷ 109 ∷ 112 ∷ 108 ∷ 101 ∷ []
 abbrev pub zeros : List ℕ
 zeros = replicate 2048 0
 
--- what 01 states: of a layout the number, the block size and the blocks' begin; of a call the number and what comes with it; of a binding and of
--- a packet the bytes
+-- what a case states: of a layout the number, the block size and where the blocks begin; of a call the number and what comes with it; of a
+-- binding and of a packet the bytes
 pub data Stated : Type 0 where
   a-layout : (number blockSize blocksBegin : ℕ) → Stated
   an-answer : (number : ℕ) → Given → Stated

@@ -74,7 +74,7 @@ lent (askView s n) = lentNone
 unfoldable pub step : End → Call → Outcome
 step e c = answer (rule e c) (lent c .rx)
 
--- a run: each call gets the end as the one before left it
+-- N1, a run: each call gets the end as the one before left it
 unfoldable pub run : End → List Call → List Outcome
 run e [] = []
 run e (c ∷ cs) = step e c ∷ run (step e c .next) cs

@@ -153,8 +153,8 @@ pub record Accounts (l : Runs) (t : List Entry) : Type 0 where
   pub runs : (s : ℕ) → l s ≡ runAt t s
   pub free : (i : ℕ) → IsFree t i ↔ ((s : ℕ) → s ≤ i → i < s + l s → ⊥)
 
--- Held or free by the history of accepted calls: for every opening and every list of calls, with any bytes lent, the table of each side of the
--- end that they leave is that of the ledger.
+-- D2, held or free by the history of accepted calls: for every opening and every list of calls, with any bytes lent, the table of each side
+-- of the end that they leave is that of the ledger.
 abbrev pub ByHistory : Type 0
 ByHistory =
     (o : Opening) (cs : List Call) (d : Side) →

@@ -1,4 +1,4 @@
--- Demand 3: a newer partner changes nothing.
+-- D3: a newer partner changes nothing (docs/RULES.md, N).
 use Prim.Native.Nat.{ℕ, _+_, _-_, _*_, _≤_, _<_}
 use mathlib.Core.Bool.{true}
 use mathlib.Core.Path.{_≡_}
@@ -17,7 +17,7 @@ use Rattle.icbmsg.specs.Calls.{Call, pull, arrival, view, step, run}
 use Rattle.icbmsg.specs.Reading.{reading, sizeIn, contentAt}
 use Rattle.icbmsg.specs.End.{End}
 
--- A binding message in block b that fits, zero-ended at byte z, and the same with bytes after it: K grows, its
+-- N3, N4: a binding message in block b that fits, zero-ended at byte zeroAt, and the same with bytes after it: K grows, its
 -- blocks do not, and its own bytes stay.
 pub record Grown (e : End) (b : ℕ) (r r′ : List ℕ) : Type 0 where
   pub lent : length r ≡ e .rx .length
@@ -32,7 +32,7 @@ pub record Grown (e : End) (b : ℕ) (r r′ : List ℕ) : Type 0 where
   pub blocks : blocksFor (e .rx .«block_size») (sizeIn e b r′) ≡ blocksFor (e .rx .«block_size») (sizeIn e b r)
   pub stays : (i : ℕ) → i < sizeIn e b r → getD r′ (contentAt e b + i) 0 ≡ getD r (contentAt e b + i) 0
 
--- A call on the end e and the same call from a newer partner. Any number of changes at once is `both`.
+-- N3: a call on the end e and the same call from a newer partner. Any number of changes at once is `both`.
 pub data Change (e : End) : Call → Call → Type 0 where
   unchanged : {c : Call} → Change e c c
   longer : {rx m : List ℕ} (more : List ℕ) → 3 ≤ length m → Change e (arrival rx m) (arrival rx (m ++ more))
@@ -67,7 +67,7 @@ Allowed e [] = Unit {0}
 Allowed e (keep c d ∷ s) = Change e c d × Allowed (step e c .next) s
 Allowed e (insert d ∷ s) = Unknown e d × Allowed e s
 
--- 13, or 6 at a closed end, and nothing else
+-- N5: 13, or 6 at a closed end, and nothing else
 abbrev pub ignored : End → Outcome
 ignored e = refused e (pick (isOpen e) 13 6)
 
@@ -78,7 +78,7 @@ withIgnored e (keep c d ∷ s) [] = []
 withIgnored e (keep c d ∷ s) (o ∷ os) = o ∷ withIgnored (o .next) s os
 withIgnored e (insert d ∷ s) os = ignored e ∷ withIgnored e s os
 
--- DEMAND 3. From any opening, whatever calls are kept, changed and put in: the second run has the first run's outcomes,
+-- D3. From any opening, whatever calls are kept, changed and put in: the second run has the first run's outcomes,
 -- and an ignored one at each call put in.
 abbrev pub NewerPartner : Type 0
 NewerPartner = (o : Opening) (s : List Item) → Allowed (opening o .next) s →

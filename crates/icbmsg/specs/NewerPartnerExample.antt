@@ -1,4 +1,4 @@
--- An example for demand 3: a list of calls at a follower with every kind of change.
+-- An example for D3: a list of calls at a follower with every kind of change.
 use Prim.Native.Nat.{ℕ}
 use mathlib.Core.List.{List, [], _∷_}
 use Rattle.wire.specs.Bytes.{wrote}
@@ -40,6 +40,6 @@ changedCalls =
     ∷ keep (done 2) (done 2)
     ∷ []
 
--- the hypothesis of demand 3 can be met
+-- J3: the hypothesis of D3 can be met
 abbrev pub ChangesCanCome : Type 0
 ChangesCanCome = Allowed follower changedCalls

@@ -13,7 +13,7 @@ use Rattle.icbmsg.specs.NewerPartnerExample.{ChangesCanCome}
 use Rattle.icbmsg.specs.BenchCases.{StarredCases}
 
 pub record Promises : Type 0 where
-  -- demand 1
+  -- D1
   pub parts-inside : PartsInside
   pub parts-apart : PartsApart
   pub separated : Separated
@@ -28,7 +28,7 @@ pub record Promises : Type 0 where
   pub open-exactly : OpenExactly
   pub open-stays : OpenStays
   pub numbers-stay : NumbersStay
-  -- demand 2
+  -- D2
   pub accepted-layouts : AcceptedLayouts
   pub indexes-in-rule : Ring.IndexesInRule
   pub used-bytes : Ring.UsedBytes
@@ -42,10 +42,10 @@ pub record Promises : Type 0 where
   pub no-room : NoRoom
   pub names-kept : NamesKept
   pub address-lowest : AddressLowest
-  -- demand 3
+  -- D3
   pub pull-reads : PullReads
   pub rules-read : RulesRead
   pub newer-partner : NewerPartner
   pub changes-can-come : ChangesCanCome
-  -- the bench
+  -- T
   pub starred-cases : StarredCases

@@ -1,4 +1,4 @@
--- The receive bytes that each call reads, as 01 lists them, by what the call answers.
+-- The receive bytes that each call reads (docs/RULES.md, N6), by what the call answers.
 use Prim.Native.Nat.{ℕ, zero, suc, _+_, min}
 use mathlib.Core.Path.{_≡_}
 use mathlib.Core.List.{List, [], _∷_, _++_}

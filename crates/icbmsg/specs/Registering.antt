@@ -1,4 +1,4 @@
--- The rule of register (01, "Binding").
+-- The rule of register (docs/RULES.md, E).
 use Prim.Native.Nat.{ℕ, _+_}
 use mathlib.Core.Bool.{not}
 use mathlib.Core.List.{List, [], _∷_, _++_}
@@ -23,22 +23,22 @@ use Rattle.icbmsg.specs.End.{End}
 abbrev pub become : End → ℕ → Stage → ℕ → List ℕ → List Endpoint
 become e i s a n = set (e .endpoints) i (record { stage = s; address = a; name = paddedName n })
 
--- "The initiator .. writes header, name and zero, answers 02 address start, and waits until kind 3": at block s
+-- E3, E4: at block s stand header, name and zero, 02 address start is for the partner, and the endpoint waits
 abbrev pub announcement : End → List ℕ → ℕ → ℕ → ℕ → Outcome
 announcement e n i a s =
     written
     (changed e (e .write) (e .read) (taken (e .sent) SentBinding s (need e (length n + 1)) a (length n + 1)) (e .held) (become e i Waiting a n) (e .bindings))
     (control 2 a s) (writes (straight (blockAt (e .tx) s)) (littleEndian 4 (length n + 1) ++ n ++ (0 ∷ [])))
 
--- "unless a stored binding has the name: then it is bound to that address, the stored binding is forgotten, its blocks are freed, and it
--- answers 03 address start": stored binding b, at place j
+-- E5, where the stored binding b has the name: it is forgotten at place j and its blocks are freed, the endpoint is bound to its address, and
+-- 03 address start is for the partner
 abbrev pub boundToStored : End → List ℕ → ℕ → ℕ → Binding → Outcome
 boundToStored e n i j b =
     accepted
     (changed e (e .write) (e .read) (e .sent) (freed (e .held) (b .start) (b .count)) (become e i Bound (b .address) n) (set (e .bindings) j noBinding))
     (control 3 (b .address) (b .start))
 
--- "The follower waits"
+-- E5, where none has it
 abbrev pub waits : End → List ℕ → ℕ → Outcome
 waits e n i = accepted (changed e (e .write) (e .read) (e .sent) (e .held) (become e i Waiting 0 n) (e .bindings)) nothing
 
@@ -46,11 +46,11 @@ abbrev pub followed : End → List ℕ → ℕ → Search → Outcome
 followed e n i nowhere = waits e n i
 followed e n i (foundAt j) = boundToStored e n i j (getD (e .bindings) j noBinding)
 
--- "gives the lowest unused address, then reserves (23, 24)": the name and its zero
+-- E2: the lowest unused address, then blocks for the name and its zero (23, 24)
 unfoldable pub initiates : End → List ℕ → ℕ → Outcome
 initiates e n i = reserving e (length n + 1) (announcement e n i (unusedFrom 8 0 (e .endpoints)))
 
--- "Register checks 20, 21, 22": l bytes are lent, the name is n
+-- E1, checks 20, 21, 22: l bytes are lent, the name is n
 unfoldable pub registerOf : End → ℕ → List ℕ → Outcome
 registerOf e l n =
     check (whole e (e .tx) l) 6 e

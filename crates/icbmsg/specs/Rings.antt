@@ -1,4 +1,4 @@
--- The rules of the calls on the rings: start, push and pull.
+-- The rules of the calls on the rings: start, push and pull (docs/RULES.md, R).
 use Prim.Native.Nat.{ℕ}
 use mathlib.Core.List.{List, []}
 use lib.ListN.{length}

@@ -59,14 +59,14 @@ partOf (register tx n) = no-part
 partOf (askRoom s n) = no-part
 partOf (askView s n) = no-part
 
--- ---- demand 1: refusals
+-- ---- D1: refusals
 
 -- An outcome whose number is not 0 is that number and nothing else: no place, no write, the end as it was, and nothing that comes with it
 -- but a ring call's length 0.
 abbrev pub Refusals : Type 0
 Refusals = (e : End) (c : Call) → step e c .number ≢ 0 → step e c ≡ refusedWith (refusedGiven (partOf c)) e (step e c .number)
 
--- ---- open ends
+-- ---- O4: open ends
 
 -- what no call changes
 pub record SameNumbers (e e′ : End) : Type 0 where
@@ -90,7 +90,7 @@ ClosedSix = (e : End) (c : Call) → isOpen e ≡ false → step e c ≡ refused
 abbrev pub OpenExactly : Type 0
 OpenExactly = (o : Opening) (cs : List Call) → isOpen (left (opening o .next) cs) ≡ eqb (opening o .number) 0
 
--- ---- demand 1: live runs share no block
+-- ---- D1: live runs share no block
 
 -- both tables are in order
 abbrev pub Separated : Type 0
@@ -110,7 +110,7 @@ Covered t = (i : ℕ) → (entry t i .usage ≡ Free → ⊥) → (s : ℕ) × L
 abbrev pub BlocksCovered : Type 0
 BlocksCovered = (e : End) → Reached e → (d : Side) → Covered (table d e)
 
--- ---- demand 1: a message's blocks stay its own
+-- ---- D1: a message's blocks stay its own
 
 -- it frees or trims the run at s on side d
 abbrev pub Touched : Side → ℕ → RunChange → Type 0
@@ -136,7 +136,7 @@ SendTrims =
     (e : End) → Reached e → (tx : List ℕ) (s a k : ℕ) → step e (send tx s a k) .number ≡ 0 →
     (blocksFor (e .tx .«block_size») k ≤ entry (e .sent) s .count) × (entry (step e (send tx s a k) .next .sent) s ≡ runEntry SentData (blocksFor (e .tx .«block_size») k) a k)
 
--- ---- what the tests of total calls add refuses nothing
+-- ---- O8: what the tests of total calls add refuses nothing
 
 -- 25 is given by the use alone: the tests that a run lies inside, and holds its data, are passed in every end reached
 pub record UseDecides (e : End) : Type 0 where
@@ -149,14 +149,14 @@ pub record UseDecides (e : End) : Type 0 where
 abbrev pub NothingAdded : Type 0
 NothingAdded = (e : End) → Reached e → UseDecides e
 
--- ---- demand 2: the lowest unused address
+-- ---- E2: the lowest unused address
 
 -- what the search gives, of eight endpoints one of which is unused
 abbrev pub AddressLowest : Type 0
 AddressLowest = (ps : List Endpoint) → length ps ≡ 8 → someEndpoint (at isUnused) ps ≡ true →
     (someEndpoint (uses (unusedFrom 8 0 ps)) ps ≡ false) × ((a : ℕ) → a < unusedFrom 8 0 ps → someEndpoint (uses a) ps ≡ true) × (unusedFrom 8 0 ps < 8)
 
--- ---- demand 2: no room
+-- ---- D2: no room
 
 -- the least number of blocks that hold K + 4 bytes
 abbrev pub NeedLeast : Type 0

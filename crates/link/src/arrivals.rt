@@ -1,4 +1,4 @@
-// Arriving control messages (01, "Arriving control messages" and "Binding").
+// Arriving control messages (docs/RULES.md, A and E).
 ghost use mathlib.Core.Bool.{true};
 ghost use mathlib.Core.Path.{_≡_};
 ghost use lib.ListN.{length};

@@ -1,4 +1,4 @@
-// The calls on messages: reserve, room, send, drop, view, done, and the two questions (01, "Blocks and framing").
+// The calls on messages: reserve, room, send, drop, view, done, and the two questions (docs/RULES.md, B and V).
 ghost use mathlib.Core.Path.{_≡_};
 ghost use lib.ListN.{length};
 ghost use Rattle.icbmsg.specs.Outcome.{withoutWrites};

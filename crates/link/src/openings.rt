@@ -1,4 +1,4 @@
-// Opening an end (01, "Region layout").
+// Opening an end (docs/RULES.md, O).
 ghost use mathlib.Core.Path.{_≡_};
 ghost use Prim.Native.Nat.{_≤_, _<_};
 ghost use Rattle.refusal.specs.Numbers.{numberOf};

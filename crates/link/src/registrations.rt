@@ -1,4 +1,4 @@
-// Registering an endpoint (01, "Binding").
+// Registering an endpoint (docs/RULES.md, E).
 ghost use mathlib.Core.Bool.{true};
 ghost use mathlib.Core.Path.{_≡_};
 ghost use lib.ListN.{length};

@@ -1,4 +1,4 @@
-// The calls on the rings: start, push and pull (01, "Ring").
+// The calls on the rings: start, push and pull (docs/RULES.md, R).
 ghost use mathlib.Core.Path.{_≡_};
 ghost use lib.ListN.{length};
 ghost use Rattle.wire.specs.Reads.{answer};

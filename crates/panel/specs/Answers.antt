@@ -1,4 +1,4 @@
--- Answers on plain numbers.
+-- Answers on plain numbers (docs/RULES.md, C).
 use Prim.Native.Nat.{ℕ}
 use mathlib.Core.Bool.{Bool, true, false}
 use mathlib.Core.List.{List, [], _∷_}

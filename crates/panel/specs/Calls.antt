@@ -1,4 +1,4 @@
--- Start, push and pull on the numbers that a region is opened with: checks 1 to 4 of its layout, then 6, then the ring's own.
+-- Start, push and pull on the numbers that a region is opened with (docs/RULES.md, C2): checks 1 to 4 of its layout, then 6, then the ring's own.
 use Prim.Native.Nat.{ℕ, _-_}
 use mathlib.Core.List.{List}
 use mathlib.Core.Path.{_≡_}

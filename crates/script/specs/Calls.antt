@@ -1,4 +1,4 @@
--- What a record does.
+-- What a record does (docs/SCRIPT.md).
 use Prim.Native.Nat.{ℕ}
 use mathlib.Core.Bool.{true, _||_}
 use mathlib.Core.Path.{_≡_}
@@ -49,14 +49,14 @@ nothing e n m = record { reply = reply 0 none 0 0; end = e; lentTx = n; lentRx =
 abbrev pub called : Outcome → ℕ → ℕ → Step
 called o n m = record { reply = replyOf o; end = o .next; lentTx = n; lentRx = m }
 
--- a record of kind k with the body b, where calls are lent n and m bytes, "never more than the slice has"
+-- a record of kind k with the body b, where calls are lent n and m bytes, or as many as there are
 unfoldable pub recordStep : ℕ → List ℕ → End → ℕ → ℕ → List ℕ → List ℕ → List ℕ → Step
 recordStep k b e n m tx rx buffer =
     pick (eqb k 32 || eqb k 33) (nothing e n m)
     (pick (eqb k 34) (nothing e (numberAt 4 b 0) (numberAt 4 b 4))
     (called (callOutcome e k b (take n tx) (take m rx) buffer) n m))
 
--- "offset (4), bytes": what the memory has of it changes
+-- the body of a write: an offset of four bytes, and the bytes; what the memory has of it changes
 abbrev pub overwritten : List ℕ → List ℕ → List ℕ
 overwritten l b = wrote l (writes (straight (numberAt 4 b 0)) (dropped 4 b))
 

@@ -1,4 +1,4 @@
--- The opening and the records of a script. All numbers are little-endian.
+-- The opening and the records of a script (docs/SCRIPT.md). All numbers are little-endian.
 use Prim.Native.Nat.{ℕ, _-_}
 use mathlib.Core.Bool.{Bool, true, _&&_, _||_}
 use mathlib.Core.List.{List}
@@ -17,7 +17,7 @@ use Rattle.script.specs.declared.records.Next.the-variants.{Stop, Whole}
 abbrev pub numberAt : ℕ → List ℕ → ℕ → ℕ
 numberAt n s p = fromLittleEndian (bytes s (straight p) n)
 
--- "transmit begin, end, receive begin, end (4 each), transmit blocks, receive blocks, alignment (2 each)"
+-- begin and end of the transmit region, of the receive region (4 each), both block counts and the alignment (2 each)
 abbrev pub openingOf : List ℕ → EndOpening
 openingOf s =
     record {
@@ -29,7 +29,7 @@ openingOf s =
 unfoldable pub begun : List ℕ → Begun
 begun s = pick (ltb (length s) 22) Short (Opening (openingOf s))
 
--- "as many as the region has"
+-- how many bytes a region has
 abbrev pub bytesOf : Bounds → ℕ
 bytesOf b = b .end - b .begin
 
@@ -44,8 +44,8 @@ has k n =
     (pick (eqb k 20 || (eqb k 21 || eqb k 34)) (eqb n 8)
     ((eqb k 32 || eqb k 33) && leb 4 n))))))
 
--- "kind (1), body length (2), body": the record that a list of bytes begins with. None where it is not whole, and none that the format
--- does not have
+-- the record that a list of bytes begins with: its kind (1), the length of its body (2), its body. None where it is not whole, and none that
+-- the format does not have
 unfoldable pub firstRecord : List ℕ → Next
 firstRecord s =
     pick (ltb (length s) 3) Stop

@@ -31,7 +31,7 @@ reply n g b z = replyWith n (valuesOf g) b z (givenNumber g)
 abbrev pub replyOf : Outcome → List ℕ
 replyOf o = reply (o .number) (o .given) (o .begin) (o .size)
 
--- "every byte times its position plus 1, modulo 65,521", of bytes from position p on
+-- every byte times its position plus 1, of bytes from position p on
 unfoldable pub weighted : ℕ → List ℕ → ℕ
 weighted p [] = 0
 weighted p (b ∷ s) = b * suc p + weighted (suc p) s

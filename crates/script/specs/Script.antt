@@ -15,7 +15,7 @@ use Rattle.script.specs.declared.records.Begun.the-variants.{Short, Open
 use Rattle.script.specs.declared.records.Next.the-variants.{Stop, Whole}
 use Rattle.script.specs.declared.Left.{Left}
 
--- the opening: calls are lent "as many as the region has (end − begin) at first"
+-- the opening: at first calls are lent as many bytes as the region has
 abbrev pub openingStep : Opening → Step
 openingStep o = called (opening o) (bytesOf (o .tx)) (bytesOf (o .rx))
 

@@ -1,4 +1,4 @@
--- Two tables of blocks in 3,136 bytes, a table being 1,568 bytes from a base on, and the entries that each stands for.
+-- Two tables of blocks in 3,136 bytes (docs/RULES.md, S8), a table being 1,568 bytes from a base on, and the entries that each stands for.
 use Prim.Native.Nat.{ℕ, zero, suc, _+_, _*_, _/_, _%_, _^_, _≤_, _<_}
 use mathlib.Core.Bool.{Bool, _&&_}
 use mathlib.Core.Path.{_≡_}
