@@ -19,7 +19,8 @@ compared = target/second/release/second
 shown = layout ring
 examples = $(shown) script
 
-.PHONY: help demo test library examples-test packets starter script_main second script region soak faults bench measure instructions clean need-file
+.PHONY: help demo starter panel library script_main script region need-file test examples-test packets second soak faults bench \
+  measure instructions clean
 
 help: ## this list
 	@sed -n 's/^\([a-z_-]*\):.*## \(.*\)/  make \1\t\2/p' Makefile | expand -t 24
@@ -35,7 +36,8 @@ starter: target/bin/starter ## run the program to begin one's own from, in Rattl
 
 # ---- to use it
 
-library: $(panel) $(script) ## the libraries for C: target/staticlib/libpanel.a, libscript.a
+panel: $(panel) ## the library for C, layout and ring: target/staticlib/libpanel.a
+library: $(panel) $(script) ## that, and the library that runs call scripts: target/staticlib/libscript.a
 script_main: target/bin/script_main ## the program that runs a call script from standard input: target/bin/script_main < FILE
 
 script: need-file second ## a call script, FILE=path, on the proved code and on the second program, in words

@@ -1,6 +1,6 @@
 /* Petrelknob: one end of a two-core link over shared memory (Zephyr ICMsg and ICBMsg). For C99 and C++.
  *
- * Link with libpanel.a (make library), which is for x86-64 Linux. It has layout and ring; blocks and endpoints are not for C yet.
+ * Link with libpanel.a (make panel), which is for x86-64 Linux. It has layout and ring; blocks and endpoints are not for C yet.
  *
  * There are two ways to call. A struct petrelknob_direction, at the end of this file, keeps what belongs to one direction of a link,
  * and its calls are short: begin there. The functions before it take every number at every call, and keep nothing.
