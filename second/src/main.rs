@@ -1,98 +1,72 @@
 //! Compares an independent second implementation of Petrelknob with the
-//! proved code.
+//! proved code, and shows scripts and regions in words.
 
-mod end;
-mod fault;
-mod layout;
-mod layout_cases;
-mod layout_inputs;
-mod proved;
-mod random;
-mod refusal;
-mod report;
-mod ring;
-mod ring_calls;
-mod ring_cases;
-mod ring_faults;
-mod ring_hostile;
-mod ring_inputs;
-mod ring_link;
-mod script;
-mod tally;
-mod traffic;
-mod twin;
+mod compare;
+mod link;
+mod look;
+mod options;
 
 use std::env;
-use std::fs;
+use std::fs::{self, File};
+use std::io::{self, stdout, Read, Write};
 use std::process::ExitCode;
-use std::time::{Duration, SystemTime, UNIX_EPOCH};
+use std::time::Duration;
 
-use fault::Fault;
-use report::Report;
-use traffic::Opponent;
+use compare::traffic::{self, in_script_main};
+use compare::{layout, looking, ring, Report, Settings};
+use link::layout::LARGEST_REGION;
+use link::script::ROW_BYTES;
+use options::{parse, Bounds, Task};
 
 type Comparison = fn(&Settings, &mut Report);
 
 /// The comparisons there are, by the word that asks for one alone.
-const COMPARISONS: [(&str, Comparison); 4] = [
-    ("layout", layout_cases::run),
-    ("ring", ring_cases::run),
+const COMPARISONS: [(&str, Comparison); 5] = [
+    ("layout", layout::run),
+    ("ring", ring::run),
     ("end", traffic::run),
+    ("look", looking::run),
     ("faults", traffic::run_faults),
 ];
 
 const USAGE: &str = "\
-usage: second [layout | ring | end | faults]... [--seed N] [--cases N] [--calls N] [--fault NAME]
+usage: second [layout | ring | end | look | faults]... [--seed N] [--cases N] [--calls N] [--fault NAME]
        second soak --minutes N [--seed N] [--fault NAME]
-       second script FILE [--fault NAME]
+       second script FILE [--rows N] [--fault NAME]
+       second region FILE [--begin N] [--end N] [--local-blocks N] [--remote-blocks N] [--alignment N]
 
 Without a word all comparisons run:
   layout, ring  with the proved functions of the panel
   end           random traffic: call scripts, run by both sides
+  look          what script and region print
   faults        plants faults in the second implementation; the traffic must find them
 soak            traffic with one seed after the other, until the time is over
-script          runs one call script with the slices of script_main and shows the rows
+script          runs one call script with the slices of script_main and shows it in words
+region          shows a dump of one region, its bytes from raw begin to raw end, in words
 
 --seed N        decides all random inputs (1; of soak, the clock)
 --cases N       random cases of layout and of ring, at least 1
 --calls N       calls of the traffic, at least 1
 --fault NAME    traffic against the second implementation itself with this fault, as listed by
                 faults, to see what a failure looks like
-N is decimal.";
-
-pub struct Settings {
-    /// Decides all random inputs.
-    pub seed: u64,
-    /// Random inputs of the layout and of the ring comparison, divided among
-    /// their mixtures.
-    pub cases: u64,
-    /// Calls of the random traffic, divided among its kinds.
-    pub calls: u64,
-    /// What the traffic is compared with.
-    pub opponent: Opponent,
-}
-
-/// What is to be done.
-enum Task {
-    /// The comparisons asked for; none named is all.
-    Compare(Vec<String>),
-    Soak {
-        minutes: u64,
-    },
-    Script {
-        file: String,
-    },
-}
+--rows N        space for so many rows (for all)
+--begin N       the region's raw begin (0x20070000)
+--end N         its raw end (begin and the file's length)
+--local-blocks N, --remote-blocks N, --alignment N
+                the region's own block count, the other's, and the alignment (16, 32, 32)
+N is decimal, of a region also hexadecimal with 0x.";
 
 fn main() -> ExitCode {
-    let Some((task, settings)) = parse(env::args().skip(1)) else {
+    let Some((task, settings)) = parse(env::args().skip(1), &COMPARISONS.map(|(word, _)| word))
+    else {
         eprintln!("{USAGE}");
         return ExitCode::from(2);
     };
     let good = match task {
         Task::Compare(words) => compare(&words, &settings),
         Task::Soak { minutes } => soak(minutes, &settings),
-        Task::Script { file } => script(&file, &settings),
+        Task::Script { file, rows } => script(&file, rows, &settings),
+        Task::Region { file, bounds } => region(&file, bounds),
     };
     if good {
         ExitCode::SUCCESS
@@ -123,81 +97,48 @@ fn soak(minutes: u64, settings: &Settings) -> bool {
 }
 
 /// Shows one script; true if both sides agree on it.
-fn script(file: &str, settings: &Settings) -> bool {
-    let script = match fs::read(file) {
-        Ok(script) => script,
-        Err(error) => {
-            eprintln!("{file}: {error}");
-            return false;
-        }
+fn script(file: &str, rows: Option<usize>, settings: &Settings) -> bool {
+    let Some(script) = contents(file, fs::read(file)) else {
+        return false;
     };
-    let case = traffic::in_script_main(script);
-    let made = case.run(settings.opponent);
-    print!("{}", traffic::show(&case, &made, settings.opponent));
-    if made.alike() {
-        println!("Both sides agree.");
-    } else {
-        println!("The sides differ.\n  {}", made.difference());
+    let mut case = in_script_main(script);
+    if let Some(rows) = rows {
+        case.lengths.out = rows.saturating_mul(ROW_BYTES).min(case.lengths.out);
     }
+    let made = case.run(settings.opponent);
+    let agreed = if made.alike() {
+        "Both sides agree.\n".to_string()
+    } else {
+        format!("The sides differ.\n  {}\n", made.difference())
+    };
+    print(&(case.show(&made, settings.opponent) + &agreed));
     made.alike()
 }
 
-/// None if a word is unknown or an option has no good value.
-fn parse(mut arguments: impl Iterator<Item = String>) -> Option<(Task, Settings)> {
-    let mut seed = None;
-    let mut minutes = None;
-    let mut settings = Settings {
-        seed: 1,
-        cases: 3_000_000,
-        calls: 2_000_000,
-        opponent: Opponent::Proved,
+/// Shows one region; true if its layout is accepted and the file has its length.
+fn region(file: &str, bounds: Bounds) -> bool {
+    let read = || {
+        let mut bytes = Vec::new();
+        // One byte more than any region has is enough to refuse it.
+        let most = LARGEST_REGION as u64 + 1;
+        File::open(file)?.take(most).read_to_end(&mut bytes)?;
+        Ok(bytes)
     };
-    let mut words = Vec::new();
-    while let Some(argument) = arguments.next() {
-        match argument.as_str() {
-            "--seed" => seed = Some(arguments.next()?.parse().ok()?),
-            "--cases" => settings.cases = positive(arguments.next()?)?,
-            "--calls" => settings.calls = positive(arguments.next()?)?,
-            "--minutes" => minutes = Some(positive(arguments.next()?)?),
-            "--fault" => settings.opponent = planted(&arguments.next()?)?,
-            _ => words.push(argument),
-        }
-    }
-    settings.seed = seed.unwrap_or(settings.seed);
-    let task = match (
-        &words.iter().map(String::as_str).collect::<Vec<_>>()[..],
-        minutes,
-    ) {
-        (["soak"], Some(minutes)) => {
-            settings.seed = seed.unwrap_or_else(clock);
-            Task::Soak { minutes }
-        }
-        (["script", file], None) => Task::Script {
-            file: file.to_string(),
-        },
-        (known, None) if known.iter().all(|word| is_comparison(word)) => Task::Compare(words),
-        _ => return None,
+    let Some(bytes) = contents(file, read()) else {
+        return false;
     };
-    Some((task, settings))
+    let request = bounds.request(bytes.len());
+    let shown = look::region::show(&request, &bytes);
+    print(shown.as_ref().unwrap_or_else(|refused| refused));
+    shown.is_ok()
 }
 
-fn positive(number: String) -> Option<u64> {
-    number.parse().ok().filter(|&number| number > 0)
+/// What a file has in it; if it cannot be read, that is said.
+fn contents(file: &str, read: io::Result<Vec<u8>>) -> Option<Vec<u8>> {
+    read.map_err(|error| eprintln!("{file}: {error}")).ok()
 }
 
-fn is_comparison(word: &str) -> bool {
-    COMPARISONS.iter().any(|&(name, _)| name == word)
-}
-
-/// The second implementation with the fault of that name.
-fn planted(name: &str) -> Option<Opponent> {
-    let mut faults = Fault::ALL.iter();
-    let fault = faults.find(|fault| fault.name() == name)?;
-    Some(Opponent::Planted(*fault))
-}
-
-/// A seed that nobody chose.
-fn clock() -> u64 {
-    let since = SystemTime::now().duration_since(UNIX_EPOCH);
-    since.map_or(0, |since| since.as_micros() as u64)
+/// Prints a text; a reader that has seen enough is no reason to complain.
+fn print(text: &str) {
+    let _ = stdout().write_all(text.as_bytes());
 }

@@ -1,0 +1,28 @@
+//! The comparison of the implementation in `link` with the proved code.
+
+pub mod layout;
+pub mod looking;
+mod proved;
+mod random;
+mod report;
+pub mod ring;
+mod tally;
+pub mod traffic;
+mod twin;
+
+pub use report::Report;
+
+use traffic::Opponent;
+
+/// What decides how a comparison runs.
+pub struct Settings {
+    /// Decides all random inputs.
+    pub seed: u64,
+    /// Random inputs of the layout and of the ring comparison, divided among
+    /// their mixtures.
+    pub cases: u64,
+    /// Calls of the random traffic, divided among its kinds.
+    pub calls: u64,
+    /// What the traffic is compared with.
+    pub opponent: Opponent,
+}

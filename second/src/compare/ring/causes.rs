@@ -1,0 +1,291 @@
+//! Calls that deserve refusals: every cause, alone and with others. The check
+//! that comes first says which refusal it must be.
+
+use std::mem::swap;
+use std::ops::Range;
+
+use super::calls::{Call, Calls, Outcome};
+use super::inputs::{answer_length, buffer_length, multiple, Place};
+use super::start::START_LENGTH;
+use crate::compare::layout::inputs::{corner, LAST};
+use crate::compare::random::{Pool, Random};
+use crate::compare::twin::Twin;
+use crate::link::layout::{ring_minimum, Request, ALIGNMENTS, LARGEST_REGION, MOST_BLOCKS};
+use crate::link::ring::{past, Ring, LONGEST_CONTENT, UNIT};
+
+/// Brings one cause of refusal into a call.
+type Cause = fn(&mut Plan, &mut Random);
+
+/// Causes and their refusals, in the order of a call's checks.
+type Causes = [(u32, Cause)];
+
+const START_CAUSES: [(u32, Cause); 5] = [
+    (1, bad_alignment),
+    (2, bad_block_count),
+    (3, bad_bounds),
+    (4, too_small),
+    (6, wrong_length),
+];
+
+const PUSH_CAUSES: [(u32, Cause); 8] = [
+    (1, bad_alignment),
+    (2, bad_block_count),
+    (3, bad_bounds),
+    (4, too_small),
+    (6, wrong_region),
+    (11, too_long),
+    (7, bad_index),
+    (10, full),
+];
+
+const PULL_CAUSES: [(u32, Cause); 8] = [
+    (1, bad_alignment),
+    (2, bad_block_count),
+    (3, bad_bounds),
+    (4, too_small),
+    (6, wrong_region),
+    (7, bad_index),
+    (8, empty),
+    (9, broken_packet),
+];
+
+/// Causes chosen out of a call's list: bit 0 is the first of them.
+pub type Choice = u32;
+
+/// None of the causes of a push or a pull, and any others up to all.
+pub const CHOICES: Range<Choice> = 0..1 << PUSH_CAUSES.len();
+
+/// The same of a start.
+pub const START_CHOICES: Range<Choice> = 0..1 << START_CAUSES.len();
+
+/// A start with the chosen causes.
+pub fn start(calls: &mut Calls, random: &mut Random, pool: &Pool, place: Place, choice: Choice) {
+    // A start is handed no index, and is to be at 0.
+    let mut plan = Plan::new(place, 0, 0, 0);
+    plan.content_length = START_LENGTH;
+    let call = plan.spoil(&START_CAUSES, choice, random);
+    let mut region = plan.region(random, pool, |_| {});
+    calls.start(&call, &mut region);
+}
+
+/// A push with the chosen causes, on a ring of less than 65,536 data bytes.
+pub fn push(calls: &mut Calls, random: &mut Random, pool: &Pool, place: Place, choice: Choice) {
+    let used = multiple(random, place.data_length - 2 * UNIT);
+    let write = place.index(random);
+    let read = past(write as usize, place.data_length - used, place.data_length);
+    let mut plan = Plan::new(place, write, read, used);
+    plan.content_length = up_to(random, plan.longest_to_push());
+
+    let call = plan.spoil(&PUSH_CAUSES, choice, random);
+    let stale = place.index(random);
+    let mut region = plan.region(random, pool, |ring| {
+        *ring.read_index = plan.partner_index.to_le_bytes();
+        *ring.write_index = stale.to_le_bytes();
+    });
+    let content = pool.slice(random, plan.content_length);
+    calls.push(&call, &mut region, content);
+}
+
+/// A pull with the chosen causes.
+pub fn pull(calls: &mut Calls, random: &mut Random, pool: &Pool, place: Place, choice: Choice) {
+    let unread = UNIT + multiple(random, place.data_length - 2 * UNIT);
+    let read = place.index(random);
+    let write = past(read as usize, unread, place.data_length);
+    let mut plan = Plan::new(place, read, write, unread);
+    plan.content_length = up_to(random, plan.longest_to_pull());
+
+    let call = plan.spoil(&PULL_CAUSES, choice, random);
+    let stale = place.index(random);
+    let mut region = plan.region(random, pool, |ring| {
+        *ring.read_index = stale.to_le_bytes();
+        *ring.write_index = plan.partner_index.to_le_bytes();
+        let length = (plan.content_length as u16).to_be_bytes();
+        ring.data[read as usize..][..length.len()].copy_from_slice(&length);
+    });
+    let length = buffer_length(random, place.data_length);
+    let mut buffer = Twin::new(pool.slice(random, length));
+    calls.pull(&call, &mut region, &mut buffer);
+}
+
+/// The most, half of the time.
+fn up_to(random: &mut Random, most: usize) -> usize {
+    if random.one_in(2) {
+        most
+    } else {
+        random.below(most as u64) as usize
+    }
+}
+
+/// A call to be made, and what it is about.
+struct Plan {
+    /// The ring, whatever the caller says of it.
+    place: Place,
+    /// Where the packet begins.
+    start: u32,
+    partner_index: u32,
+    /// Bytes between the two indexes.
+    used: usize,
+    /// Bytes of the content to push, or of the one the ring offers.
+    content_length: usize,
+    // What the caller hands over.
+    request: Request,
+    own_index: u32,
+    lent_length: usize,
+}
+
+impl Plan {
+    fn new(place: Place, start: u32, partner_index: u32, used: usize) -> Self {
+        Plan {
+            place,
+            start,
+            partner_index,
+            used,
+            content_length: 0,
+            request: place.request,
+            own_index: start,
+            lent_length: place.length(),
+        }
+    }
+
+    /// A packet has 4 bytes more, and 4 is the least that must stay free.
+    fn longest_to_push(&self) -> usize {
+        self.place.data_length - 8 - self.used
+    }
+
+    fn longest_to_pull(&self) -> usize {
+        self.used - 4
+    }
+
+    /// Brings the chosen causes in, and states what must come of the call.
+    fn spoil(&mut self, causes: &Causes, choice: Choice, random: &mut Random) -> Call {
+        // Backwards: of two causes in one number, that of the first check has
+        // the last word, and so has its refusal.
+        let mut refusal = None;
+        for (bit, (number, cause)) in causes.iter().enumerate().rev() {
+            if choice >> bit & 1 == 1 {
+                cause(self, random);
+                refusal = Some(*number);
+            }
+        }
+        let stated = match refusal {
+            Some(number) => Outcome::refused(number, self.own_index),
+            None => Outcome::accepted(self.content_length, self.start, self.place.data_length),
+        };
+        Call {
+            request: self.request,
+            own_index: self.own_index,
+            answer_length: answer_length(random),
+            stated: Some(stated),
+        }
+    }
+
+    /// Random bytes, but for what is set in the ring. The own index in it is
+    /// stale, to mislead whoever reads it.
+    fn region(&self, random: &mut Random, pool: &Pool, set: impl FnOnce(Ring)) -> Twin<u8> {
+        let mut bytes = pool.slice(random, self.place.length()).to_vec();
+        set(self.place.ring(&mut bytes));
+        bytes.resize(self.lent_length, 0);
+        Twin::new(&bytes)
+    }
+}
+
+fn bad_alignment(plan: &mut Plan, random: &mut Random) {
+    plan.request.alignment = corner_outside(random, |number| ALIGNMENTS.contains(&number));
+}
+
+fn bad_block_count(plan: &mut Plan, random: &mut Random) {
+    let count = corner_outside(random, |number| (1..=MOST_BLOCKS).contains(&number));
+    let both = random.one_in(4);
+    let local = random.one_in(2);
+    if both || local {
+        plan.request.local_blocks = count;
+    }
+    if both || !local {
+        plan.request.remote_blocks = count;
+    }
+}
+
+fn corner_outside(random: &mut Random, good: impl Fn(u32) -> bool) -> u32 {
+    loop {
+        let number = corner(random);
+        if !good(number) {
+            return number;
+        }
+    }
+}
+
+fn bad_bounds(plan: &mut Plan, random: &mut Random) {
+    let request = &mut plan.request;
+    match random.below(3) {
+        0 => request.end = request.begin,
+        1 => swap(&mut request.begin, &mut request.end),
+        _ => {
+            let length = LARGEST_REGION + random.between(1, 9);
+            let begin = random.between(0, LAST - length);
+            request.begin = begin as u32;
+            request.end = (begin + length) as u32;
+        }
+    }
+}
+
+/// A region without space for the ring, or for the least blocks beside it.
+fn too_small(plan: &mut Plan, random: &mut Random) {
+    let request = &mut plan.request;
+    let [blocks, others, a] = [
+        request.local_blocks,
+        request.remote_blocks,
+        request.alignment,
+    ]
+    .map(i64::from);
+    let length = random.between(1, ring_minimum(blocks, others, a) + blocks * a - 1);
+    let end = request.begin + length as u32;
+    let cut = request.end - end;
+    request.end = end;
+    // A slice of the wrong length stays one.
+    plan.lent_length = plan.lent_length.saturating_sub(cut as usize);
+}
+
+fn wrong_region(plan: &mut Plan, random: &mut Random) {
+    if random.one_in(2) {
+        plan.own_index = plan.place.bad_index(random);
+    } else {
+        wrong_length(plan, random);
+    }
+}
+
+fn wrong_length(plan: &mut Plan, random: &mut Random) {
+    let length = plan.lent_length;
+    plan.lent_length = random.pick(&[0, 1, length - 1, length + 1, 2 * length]);
+}
+
+fn too_long(plan: &mut Plan, random: &mut Random) {
+    plan.content_length = LONGEST_CONTENT + random.pick(&[1, 2, 3, 4, 5, 65_536, 65_537]);
+}
+
+fn bad_index(plan: &mut Plan, random: &mut Random) {
+    plan.partner_index = plan.place.bad_index(random);
+}
+
+fn full(plan: &mut Plan, random: &mut Random) {
+    plan.content_length = longer_than(random, plan.longest_to_push());
+}
+
+fn empty(plan: &mut Plan, _: &mut Random) {
+    plan.partner_index = plan.start;
+}
+
+fn broken_packet(plan: &mut Plan, random: &mut Random) {
+    plan.content_length = longer_than(random, plan.longest_to_pull());
+}
+
+/// A length that a content can have, though more than fits. Near the longest
+/// one, the length of its packet has over 16 bits.
+fn longer_than(random: &mut Random, longest: usize) -> usize {
+    let length = match random.below(4) {
+        0 => longest + 1,
+        1 => longest + random.between(1, 9) as usize,
+        2 => LONGEST_CONTENT - random.below(4) as usize,
+        _ => random.between(longest as i64 + 1, LONGEST_CONTENT as i64) as usize,
+    };
+    length.clamp(longest + 1, LONGEST_CONTENT)
+}

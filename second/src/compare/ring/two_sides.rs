@@ -1,0 +1,129 @@
+//! Two sides that use one ring as they should, and a queue beside it that says
+//! what must come of each of their calls.
+
+use std::collections::VecDeque;
+
+use super::calls::{Call, Calls, Outcome, ANSWER};
+use super::inputs::Place;
+use crate::compare::twin::Twin;
+use crate::link::ring::{packet_length, LONGEST_CONTENT};
+
+pub struct TwoSides {
+    place: Place,
+    region: Twin<u8>,
+    /// The writer's own index.
+    write_index: u32,
+    /// The reader's own index.
+    read_index: u32,
+    /// Contents pushed and not yet pulled.
+    queue: VecDeque<Vec<u8>>,
+}
+
+impl TwoSides {
+    /// A region with these bytes, but for an empty ring whose two sides stand
+    /// at `start`.
+    pub fn new(place: Place, bytes: &[u8], start: u32) -> Self {
+        let mut bytes = bytes.to_vec();
+        let ring = place.ring(&mut bytes);
+        *ring.read_index = start.to_le_bytes();
+        *ring.write_index = start.to_le_bytes();
+        TwoSides {
+            place,
+            region: Twin::new(&bytes),
+            write_index: start,
+            read_index: start,
+            queue: VecDeque::new(),
+        }
+    }
+
+    /// The region as the second implementation left it.
+    pub fn region(&self) -> &[u8] {
+        self.region.second()
+    }
+
+    /// Every byte must be as it is stated.
+    pub fn check_region(&self, calls: &mut Calls, stated: &[u8]) {
+        if self.region() != stated {
+            calls.group.mismatch(|| {
+                let second = self.region();
+                format!("the region\n  stated: {stated:02x?}\n  second: {second:02x?}")
+            });
+        }
+    }
+
+    /// The reader begins anew, as a partner does that opens its end.
+    pub fn reader_opens(&mut self) {
+        self.read_index = 0;
+    }
+
+    /// Packets on the ring.
+    pub fn packets(&self) -> usize {
+        self.queue.len()
+    }
+
+    /// The longest packet that fits now.
+    pub fn space(&self) -> usize {
+        let packets = self
+            .queue
+            .iter()
+            .map(|content| packet_length(content.len()));
+        self.place.data_length - 1 - packets.sum::<usize>()
+    }
+
+    /// Empties the ring; from then on its reader has to stand at 0.
+    pub fn start(&mut self, calls: &mut Calls, content: &[u8]) {
+        self.queue = VecDeque::from([content.to_vec()]);
+        let stated = Outcome::accepted(content.len(), 0, self.place.data_length);
+        let call = self.call(0, stated);
+        self.write_index = calls.start(&call, &mut self.region).own_index;
+    }
+
+    pub fn push(&mut self, calls: &mut Calls, content: &[u8]) {
+        let stated = if content.len() > LONGEST_CONTENT {
+            Outcome::refused(11, self.write_index)
+        } else if packet_length(content.len()) > self.space() {
+            Outcome::refused(10, self.write_index)
+        } else {
+            self.queue.push_back(content.to_vec());
+            Outcome::accepted(content.len(), self.write_index, self.place.data_length)
+        };
+        let call = self.call(self.write_index, stated);
+        self.write_index = calls.push(&call, &mut self.region, content).own_index;
+    }
+
+    /// Pulls into a buffer that holds these bytes before.
+    pub fn pull(&mut self, calls: &mut Calls, before: &[u8]) {
+        let mut expected = before.to_vec();
+        let stated = match self.queue.pop_front() {
+            None => Outcome::refused(8, self.read_index),
+            Some(content) => {
+                for (place, byte) in expected.iter_mut().zip(&content) {
+                    *place = *byte;
+                }
+                Outcome::accepted(content.len(), self.read_index, self.place.data_length)
+            }
+        };
+        let call = self.call(self.read_index, stated);
+        let mut buffer = Twin::new(before);
+        self.read_index = calls.pull(&call, &mut self.region, &mut buffer).own_index;
+        if buffer.second() != expected {
+            calls.group.mismatch(|| {
+                format!(
+                    "{}, own index {}\n  pushed: {expected:02x?}\n  pulled: {:02x?}",
+                    call.request,
+                    call.own_index,
+                    buffer.second()
+                )
+            });
+        }
+    }
+
+    fn call(&self, own_index: u32, stated: Outcome) -> Call {
+        Call {
+            request: self.place.request,
+            own_index,
+            answer_length: ANSWER,
+            stated: Some(stated),
+        }
+    }
+}

@@ -1,0 +1,169 @@
+//! Scripts whose outcomes are stated beforehand.
+
+use super::case::{Case, Lengths, Opponent};
+use super::failure;
+use crate::compare::report::Group;
+use crate::link::end::{Given, Opening};
+use crate::link::script::{Record, Row, ROW_BYTES};
+
+/// A record, the number that must come of it and what must be given.
+type Step = (Record<'static>, u32, Given);
+
+struct Bench {
+    name: &'static str,
+    opening: Opening,
+    /// The number of the opening.
+    opened: u32,
+    steps: &'static [Step],
+    /// Transmit bytes afterwards, from an offset on.
+    transmit: (usize, &'static [u8]),
+}
+
+/// Two regions of 2 KiB, with blocks of 96 and of 32 bytes.
+const USUAL: Opening = Opening {
+    transmit_begin: 0x2007_0000,
+    transmit_end: 0x2007_0800,
+    receive_begin: 0x2007_8000,
+    receive_end: 0x2007_8800,
+    transmit_blocks: 16,
+    receive_blocks: 32,
+    alignment: 32,
+};
+
+/// Regions of so many bytes at alignment 4.
+const fn tiny(transmit: [u32; 2], receive: [u32; 2]) -> Opening {
+    let [transmit_length, transmit_blocks] = transmit;
+    let [receive_length, receive_blocks] = receive;
+    Opening {
+        transmit_begin: 0x2007_0000,
+        transmit_end: 0x2007_0000 + transmit_length,
+        receive_begin: 0x2007_8000,
+        receive_end: 0x2007_8000 + receive_length,
+        transmit_blocks,
+        receive_blocks,
+        alignment: 4,
+    }
+}
+
+const CONTROL: Record = Record::Push(&[0x00, 0x02, 0x05]);
+
+const fn run(start: u32, count: u32) -> Given {
+    Given::Run { start, count }
+}
+
+const BENCHES: [Bench; 6] = [
+    Bench {
+        name: "blocks that a message takes",
+        opening: USUAL,
+        opened: 0,
+        steps: &[
+            (Record::Reserve { k: 92 }, 0, run(0, 1)),
+            (Record::Reserve { k: 93 }, 0, run(1, 2)),
+            (Record::Reserve { k: 0 }, 0, run(3, 1)),
+            (Record::Drop { start: 0 }, 0, Given::Nothing),
+            (Record::Drop { start: 1 }, 0, Given::Nothing),
+            (Record::Drop { start: 3 }, 0, Given::Nothing),
+            (Record::Reserve { k: 1532 }, 0, run(0, 16)),
+            (Record::Reserve { k: 0 }, 24, Given::Nothing),
+            (Record::Reserve { k: 1533 }, 23, Given::Nothing),
+        ],
+        transmit: (0, &[]),
+    },
+    Bench {
+        name: "binding of `example`",
+        opening: USUAL.swapped(),
+        opened: 0,
+        steps: &[(Record::Register(b"example"), 0, Given::Control([2, 0, 0]))],
+        transmit: (0x400, b"\x08\0\0\0example\0"),
+    },
+    Bench {
+        name: "packet for data, address 2, block 5",
+        opening: USUAL,
+        opened: 0,
+        steps: &[(CONTROL, 0, Given::Length(3))],
+        transmit: (36, &[0x00, 0x03, 0x00, 0x00, 0x00, 0x02, 0x05, 0x00]),
+    },
+    Bench {
+        name: "64 data bytes take seven packets",
+        opening: tiny([76, 1], [92, 5]),
+        opened: 0,
+        steps: &[
+            (CONTROL, 0, Given::Length(3)),
+            (CONTROL, 0, Given::Length(3)),
+            (CONTROL, 0, Given::Length(3)),
+            (CONTROL, 0, Given::Length(3)),
+            (CONTROL, 0, Given::Length(3)),
+            (CONTROL, 0, Given::Length(3)),
+            (CONTROL, 0, Given::Length(3)),
+            (CONTROL, 10, Given::Length(0)),
+        ],
+        transmit: (4, &[56, 0, 0, 0]),
+    },
+    Bench {
+        name: "44 bytes, one block",
+        opening: tiny([44, 1], [44, 1]),
+        opened: 0,
+        steps: &[(Record::Room { start: 0 }, 25, Given::Nothing)],
+        transmit: (0, &[]),
+    },
+    Bench {
+        name: "40 bytes, refused",
+        opening: tiny([40, 1], [44, 1]),
+        opened: 4,
+        steps: &[(Record::Room { start: 0 }, 6, Given::Nothing)],
+        transmit: (0, &[]),
+    },
+];
+
+/// Both sides must give what is stated.
+pub fn compare(group: &mut Group, opponent: Opponent) {
+    for bench in &BENCHES {
+        let case = bench.case();
+        let made = case.run(opponent);
+        if !made.alike() {
+            group.mismatch(|| failure::describe(bench.name, &case, opponent));
+        }
+        let rows: [Vec<Row>; 2] = [made.second_rows().collect(), made.other_rows().collect()];
+        for (rows, transmit) in rows.iter().zip(made.transmit()) {
+            group.input();
+            if !bench.holds(rows, transmit) {
+                group.mismatch(|| {
+                    let shown = case.show(&made, opponent);
+                    format!("{}: not as stated\n{shown}", bench.name)
+                });
+            }
+        }
+    }
+}
+
+impl Bench {
+    fn case(&self) -> Case {
+        let mut script = self.opening.encode();
+        for (record, ..) in self.steps {
+            record.encode(&mut script);
+        }
+        let lengths = [self.opening.transmit(), self.opening.receive()]
+            .map(|region| (region.end - region.begin) as usize);
+        let [transmit, receive] = lengths;
+        Case {
+            script,
+            lengths: Lengths {
+                transmit,
+                receive,
+                buffer: 0,
+                out: (1 + self.steps.len()) * ROW_BYTES,
+            },
+        }
+    }
+
+    fn holds(&self, rows: &[Row], transmit: &[u8]) -> bool {
+        let opened = (self.opened, Given::Nothing);
+        let steps = self.steps.iter().map(|&(_, number, given)| (number, given));
+        let stated = [opened].into_iter().chain(steps);
+        let stated = stated.map(|(number, given)| (number, given.values(), given.number()));
+        let rows = rows.iter();
+        let made = rows.map(|row| (row.number(), row.values().to_vec(), row.given()));
+        let (offset, bytes) = self.transmit;
+        stated.eq(made) && transmit[offset..].starts_with(bytes)
+    }
+}

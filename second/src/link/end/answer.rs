@@ -1,0 +1,125 @@
+//! What comes of a call.
+
+use std::ops::Range;
+
+use super::control::ControlKind;
+use crate::link::refusal::Refusal;
+
+/// What an accepted call answers.
+#[derive(Default)]
+pub struct Answer {
+    pub given: Given,
+    /// A room or a view, counted from the first lent byte.
+    pub place: Range<usize>,
+    pub written: Vec<Written>,
+}
+
+impl Answer {
+    pub fn giving(given: Given) -> Self {
+        Answer {
+            given,
+            ..Answer::default()
+        }
+    }
+}
+
+/// What is given with an answer.
+#[derive(Clone, Copy, Default)]
+pub enum Given {
+    #[default]
+    Nothing,
+    /// Of a ring call's content; 0 if it is refused.
+    Length(u32),
+    /// The blocks of a reservation.
+    Run { start: u32, count: u32 },
+    /// Three bytes to be pushed.
+    Control([u8; 3]),
+    /// A data message that has arrived.
+    Delivery { address: u8, start: u32, k: u32 },
+}
+
+impl Given {
+    /// The bytes that tell the partner of a message. A start is one of at most
+    /// 256 blocks, so it fits a byte.
+    pub fn control(kind: ControlKind, address: u8, start: u32) -> Self {
+        Given::Control([kind as u8, address, start as u8])
+    }
+
+    pub fn values(&self) -> Vec<u32> {
+        match *self {
+            Given::Nothing => Vec::new(),
+            Given::Length(length) => vec![length],
+            Given::Run { start, count } => vec![start, count],
+            Given::Control(bytes) => bytes.map(u32::from).to_vec(),
+            Given::Delivery { address, start, k } => vec![address.into(), start, k],
+        }
+    }
+
+    /// How a row says which of them it is, as values can be alike.
+    pub fn number(&self) -> u32 {
+        match self {
+            Given::Nothing => 0,
+            Given::Length(_) => 1,
+            Given::Run { .. } => 2,
+            Given::Control(_) => 3,
+            Given::Delivery { .. } => 4,
+        }
+    }
+
+    /// A delivery of the same values in place of control bytes: what planted
+    /// faults give.
+    pub fn as_delivery(self) -> Self {
+        match self {
+            Given::Control([kind, address, start]) => Given::Delivery {
+                address: kind,
+                start: address.into(),
+                k: start.into(),
+            },
+            other => other,
+        }
+    }
+}
+
+/// What is given, in words, by its number in a row.
+pub fn given_name(number: u32) -> &'static str {
+    match number {
+        0 => "nothing",
+        1 => "length",
+        2 => "run",
+        3 => "control bytes",
+        4 => "delivery",
+        _ => "unknown",
+    }
+}
+
+/// The slices that calls write to.
+#[derive(Clone, Copy, PartialEq, Eq)]
+pub enum Slice {
+    Transmit,
+    Receive,
+    Buffer,
+}
+
+/// Bytes that a call wrote.
+pub struct Written {
+    pub slice: Slice,
+    pub range: Range<usize>,
+}
+
+/// What a call comes to; number 0 is an accepted one.
+pub struct Outcome {
+    pub number: u32,
+    pub answer: Answer,
+}
+
+impl Outcome {
+    pub fn new(result: Result<Answer, Refusal>) -> Self {
+        match result {
+            Ok(answer) => Outcome { number: 0, answer },
+            Err(refusal) => Outcome {
+                number: refusal as u32,
+                answer: Answer::default(),
+            },
+        }
+    }
+}
