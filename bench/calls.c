@@ -1,12 +1,17 @@
-/* The calls of the proved end and of the plain C end side by side: nanoseconds for a call, by the regions' size and block counts. Both
- * make the same rounds of calls, and a checksum of what the calls answered is compared. The least of all runs counts. */
-#define _POSIX_C_SOURCE 199309L
+/* The calls of the proved end and of the plain C end side by side: nanoseconds for a call, by the regions' length and block counts. Both
+ * make the same rounds of calls, and a checksum of what the calls answered is compared. The least of all runs counts.
+ *
+ * With three words, a kind of rounds, `plain` or `proved`, and a number, it makes so many rounds and nothing else: bench/instructions.sh
+ * counts the instructions. */
+#include "seconds.h"
+
+#include "bytes.h"
 #include "plain_end.h"
 #include "rounds.h"
 
 #include <stdio.h>
 #include <stdlib.h>
-#include <time.h>
+#include <string.h>
 
 enum { ALIGNMENT = 32, RX_BEGIN = 0x20000000, TX_BEGIN = 0x20100000, LARGEST = 1048576, ROUNDS = 20000, RUNS = 41 };
 enum { PROVED_TABLES = 3136 };
@@ -14,21 +19,22 @@ enum { PROVED_TABLES = 3136 };
 /* What a round is made on: the alignment, then the transmit and the receive region. An initiator's receive region is the lower one. */
 struct scene {
     uint32_t opening[7];
-    uint32_t bytes;
+    uint32_t length;
     uint32_t taken;
     uint32_t k;
+    uint32_t rounds;
 };
 
 /* The fields of the proved end, as crates/link declares it and crates/icbmsg its numbers, for its size. */
 struct proved_region {
-    uint32_t bytes, base, ring, blocks;
-    uint16_t count;
-    uint32_t size;
+    uint32_t length, ring_offset, data_length, blocks_offset;
+    uint16_t block_count;
+    uint32_t block_size;
 };
 
 struct proved_end {
     bool initiator;
-    uint16_t align;
+    uint16_t alignment;
     struct proved_region tx, rx;
     uint32_t write, read;
     uint8_t tables[PROVED_TABLES];
@@ -40,13 +46,6 @@ typedef uint32_t rounds_call(const struct scene *scene);
 
 static uint8_t tx[LARGEST];
 static uint8_t rx[LARGEST];
-
-static double seconds(void)
-{
-    struct timespec now;
-    clock_gettime(CLOCK_MONOTONIC, &now);
-    return (double)now.tv_sec + 1e-9 * (double)now.tv_nsec;
-}
 
 /* ---- rounds of the plain end: the same calls as in crates/rounds, and the same checksum */
 
@@ -84,8 +83,8 @@ static void bind_endpoint(struct plain_end *end, const struct scene *scene)
 {
     static const uint8_t released[3] = {3, 0, 0};
     struct plain_outcome outcome;
-    plain_register(end, tx, scene->bytes, "bench", 5, &outcome);
-    plain_arrival(end, rx, scene->bytes, released, sizeof released, &outcome);
+    plain_register(end, tx, scene->length, "bench", 5, &outcome);
+    plain_arrival(end, rx, scene->length, released, sizeof released, &outcome);
 }
 
 static uint32_t plain_reserves(const struct scene *scene)
@@ -95,7 +94,7 @@ static uint32_t plain_reserves(const struct scene *scene)
     open_end(&end, scene);
     for (uint32_t i = 0; i < scene->taken; i++)
         plain_reserve(&end, 0, &start, &count);
-    for (uint32_t i = 0; i < ROUNDS; i++) {
+    for (uint32_t i = 0; i < scene->rounds; i++) {
         uint32_t number = plain_reserve(&end, scene->k, &start, &count);
         sum += number_of_run(number, start, count);
         sum += number_of_refusal(plain_drop(&end, number ? 256 : start));
@@ -112,12 +111,12 @@ static uint32_t plain_sends(const struct scene *scene)
     uint32_t sum = 0, start = 256, count = 0;
     open_end(&end, scene);
     bind_endpoint(&end, scene);
-    for (uint32_t i = 0; i < ROUNDS; i++) {
+    for (uint32_t i = 0; i < scene->rounds; i++) {
         uint32_t number = plain_reserve(&end, scene->k, &start, &count);
         sum += number_of_run(number, start, count);
-        number = plain_send(&end, tx, scene->bytes, number ? 256 : start, 0, scene->k, control);
+        number = plain_send(&end, tx, scene->length, number ? 256 : start, 0, scene->k, control);
         sum += number_of_control(number, control);
-        number = plain_arrival(&end, rx, scene->bytes, released, sizeof released, &outcome);
+        number = plain_arrival(&end, rx, scene->length, released, sizeof released, &outcome);
         sum += number_of_arrival(number, &outcome);
     }
     return sum;
@@ -132,8 +131,8 @@ static uint32_t plain_arrivals(const struct scene *scene)
     uint32_t sum = 0;
     open_end(&end, scene);
     bind_endpoint(&end, scene);
-    for (uint32_t i = 0; i < ROUNDS; i++) {
-        uint32_t number = plain_arrival(&end, rx, scene->bytes, sent, sizeof sent, &outcome);
+    for (uint32_t i = 0; i < scene->rounds; i++) {
+        uint32_t number = plain_arrival(&end, rx, scene->length, sent, sizeof sent, &outcome);
         sum += number_of_arrival(number, &outcome);
         number = plain_done(&end, 0, control);
         sum += number_of_control(number, control);
@@ -145,17 +144,43 @@ static uint32_t plain_arrivals(const struct scene *scene)
 
 static uint32_t proved_reserves(const struct scene *scene)
 {
-    return petrelknob_rounds_reserve(scene->opening, scene->taken, scene->k, ROUNDS);
+    return petrelknob_rounds_reserve(scene->opening, scene->taken, scene->k, scene->rounds);
 }
 
 static uint32_t proved_sends(const struct scene *scene)
 {
-    return petrelknob_rounds_send(scene->opening, tx, scene->bytes, rx, scene->bytes, scene->k, ROUNDS);
+    return petrelknob_rounds_send(scene->opening, tx, scene->length, rx, scene->length, scene->k, scene->rounds);
 }
 
 static uint32_t proved_arrivals(const struct scene *scene)
 {
-    return petrelknob_rounds_arrival(scene->opening, tx, scene->bytes, rx, scene->bytes, ROUNDS);
+    return petrelknob_rounds_arrival(scene->opening, tx, scene->length, rx, scene->length, scene->rounds);
+}
+
+/* ---- kinds of rounds */
+
+struct kind {
+    const char *name, *what;
+    rounds_call *plain, *proved;
+    int calls;
+};
+
+static const struct kind reserves = {"reserve", "reserve and drop", plain_reserves, proved_reserves, 2};
+static const struct kind sends = {"send", "reserve, send and release", plain_sends, proved_sends, 3};
+static const struct kind arrivals = {"arrival", "arrival and done", plain_arrivals, proved_arrivals, 2};
+
+/* Rounds with one block each, and a message of 8 bytes in receive block 0. */
+static struct scene scene_of(uint32_t length, uint32_t tx_blocks, uint32_t rx_blocks, struct plain_end *end)
+{
+    struct scene scene = {
+        {ALIGNMENT, TX_BEGIN, TX_BEGIN + length, tx_blocks, RX_BEGIN, RX_BEGIN + length, rx_blocks}, length, 0, 8, ROUNDS};
+    if (open_end(end, &scene) != 0) {
+        fprintf(stderr, "the opening was refused\n");
+        exit(1);
+    }
+    memset(rx, 0, sizeof rx);
+    store(rx + end->rx.blocks_offset, 8);
+    return scene;
 }
 
 /* ---- the table */
@@ -164,55 +189,67 @@ static double nanoseconds(rounds_call *rounds, const struct scene *scene, uint32
 {
     double began = seconds();
     *sum = rounds(scene);
-    return 1e9 * (seconds() - began) / ROUNDS;
+    return 1e9 * (seconds() - began) / scene->rounds;
 }
 
-static void compare(const char *what, rounds_call *plain, rounds_call *proved, int calls, const struct scene *scene)
+static void compare(const struct kind *kind, const char *blocks, const struct scene *scene)
 {
     double a = 1e9, b = 1e9;
     for (int r = 0; r < RUNS; r++) {
         uint32_t of_plain, of_proved;
-        double t = nanoseconds(plain, scene, &of_plain);
+        double t = nanoseconds(kind->plain, scene, &of_plain);
         a = t < a ? t : a;
-        t = nanoseconds(proved, scene, &of_proved);
+        t = nanoseconds(kind->proved, scene, &of_proved);
         b = t < b ? t : b;
         if (of_plain != of_proved) {
-            fprintf(stderr, "%s: the two ends answered differently, %u and %u\n", what, (unsigned)of_plain,
-                    (unsigned)of_proved);
+            fprintf(stderr, "%s, %s: the two ends answered differently, %u and %u\n", kind->what, blocks,
+                    (unsigned)of_plain, (unsigned)of_proved);
             exit(1);
         }
     }
-    printf("  %-42s %8.1f %8.1f %8.1f\n", what, a / calls, b / calls, b / a);
+    printf("  %-26s %-20s %8.1f %8.1f %8.1f\n", kind->what, blocks, a / kind->calls, b / kind->calls, b / a);
 }
 
-static void region_of(uint32_t bytes, uint32_t tx_blocks, uint32_t rx_blocks)
+static void compare_in(uint32_t length, uint32_t tx_blocks, uint32_t rx_blocks)
 {
     static struct plain_end end;
-    struct scene scene = {{ALIGNMENT, TX_BEGIN, TX_BEGIN + bytes, tx_blocks, RX_BEGIN, RX_BEGIN + bytes, rx_blocks}, bytes, 0, 8};
-    if (open_end(&end, &scene) != 0) {
-        fprintf(stderr, "the opening was refused\n");
-        exit(1);
-    }
-    rx[end.rx.first_block] = 8; /* the arriving message's header: 8 bytes */
-    printf("%u bytes, %u and %u blocks\n", (unsigned)bytes, (unsigned)tx_blocks, (unsigned)rx_blocks);
-    compare("reserve and drop, one block", plain_reserves, proved_reserves, 2, &scene);
-    compare("reserve, send and release, one block", plain_sends, proved_sends, 3, &scene);
-    compare("arrival and done, one block", plain_arrivals, proved_arrivals, 2, &scene);
+    struct scene scene = scene_of(length, tx_blocks, rx_blocks, &end);
+    printf("%u bytes, %u and %u blocks\n", (unsigned)length, (unsigned)tx_blocks, (unsigned)rx_blocks);
+    compare(&reserves, "one block", &scene);
+    compare(&sends, "one block", &scene);
+    compare(&arrivals, "one block", &scene);
     scene.taken = tx_blocks - 1;
-    compare("reserve and drop, the last free block", plain_reserves, proved_reserves, 2, &scene);
+    compare(&reserves, "the last free block", &scene);
     scene.taken = 0;
     scene.k = tx_blocks * end.tx.block_size - 4;
-    compare("reserve and drop, all blocks", plain_reserves, proved_reserves, 2, &scene);
-    compare("reserve, send and release, all blocks", plain_sends, proved_sends, 3, &scene);
-    rx[end.rx.first_block] = 0;
+    compare(&reserves, "all blocks", &scene);
+    compare(&sends, "all blocks", &scene);
 }
 
-int main(void)
+static int run_one(const char *name, const char *which, const char *rounds)
 {
-    printf("nanoseconds for a call                        plain C   proved    ratio\n");
-    region_of(2048, 16, 32);
-    region_of(65536, 256, 256);
-    region_of(LARGEST, 16, 16);
+    static const struct kind *const kinds[] = {&reserves, &sends, &arrivals};
+    static struct plain_end end;
+    struct scene scene = scene_of(2048, 16, 32, &end);
+    scene.rounds = (uint32_t)strtoul(rounds, NULL, 10);
+    for (size_t i = 0; i < sizeof kinds / sizeof kinds[0]; i++)
+        if (!strcmp(name, kinds[i]->name)) {
+            uint32_t sum = (!strcmp(which, "plain") ? kinds[i]->plain : kinds[i]->proved)(&scene);
+            printf("%s, %s, checksum %u\n", kinds[i]->what, which, (unsigned)sum);
+            return 0;
+        }
+    fprintf(stderr, "there are no rounds of %s\n", name);
+    return 2;
+}
+
+int main(int argc, char **argv)
+{
+    if (argc == 4)
+        return run_one(argv[1], argv[2], argv[3]);
+    printf("nanoseconds for a call                              plain C   proved    ratio\n");
+    compare_in(2048, 16, 32);
+    compare_in(65536, 256, 256);
+    compare_in(LARGEST, 16, 16);
     printf("size of an end in bytes: plain C %zu, proved %zu (by its fields)\n", sizeof(struct plain_end),
            sizeof(struct proved_end));
     return 0;

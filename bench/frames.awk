@@ -1,5 +1,5 @@
-# Reads `objdump -dr` of a library: of each function the bytes of stack that its own frame takes, those that it takes with all that it calls,
-# and the copies that it makes by memcpy, with their sizes where they are constants.
+# Reads `objdump -dr` of a library: of each function the bytes of stack that its own frame takes, those that it takes with all that it
+# calls, and the copies that it makes by memcpy, with their sizes where they are constants.
 /^[0-9a-f]+ <.*>:$/ {
     name = $0
     sub(/^[0-9a-f]+ </, "", name)
@@ -17,6 +17,7 @@ entry && /\tsub .*,%rsp/ {
     frame[name] += hexadecimal(substr($0, RSTART + 3, RLENGTH - 3))
     if ($0 !~ /\$0x1000,/) entry = 0
 }
+/,%[er]dx$/ { size = "" }
 /\tmov .*\$0x[0-9a-f]+,%edx/ {
     match($0, /\$0x[0-9a-f]+/)
     size = hexadecimal(substr($0, RSTART + 3, RLENGTH - 3))

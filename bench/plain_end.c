@@ -1,24 +1,13 @@
 #include "plain_end.h"
 
+#include "bytes.h"
+
 #include <string.h>
 
 /* A cleared entry is a free one, a cleared endpoint an unused one. */
 enum { FREE, INSIDE, RESERVED, SENT_DATA, SENT_BINDING, RECEIVED, STORED };
 enum { UNUSED, WAITING, BOUND };
 enum { HEADER = 4, LAST_ADDRESS = 0xFD };
-
-static uint32_t load(const uint8_t *p)
-{
-    return p[0] | (uint32_t)p[1] << 8 | (uint32_t)p[2] << 16 | (uint32_t)p[3] << 24;
-}
-
-static void store(uint8_t *p, uint32_t value)
-{
-    p[0] = (uint8_t)value;
-    p[1] = (uint8_t)(value >> 8);
-    p[2] = (uint8_t)(value >> 16);
-    p[3] = (uint8_t)(value >> 24);
-}
 
 /* ---- blocks */
 
@@ -28,10 +17,10 @@ static uint32_t blocks_for(const struct plain_region *region, uint32_t k)
 }
 
 /* The lowest start of n free blocks, or -1. */
-static int find_run(const struct plain_entry *table, uint32_t blocks, uint32_t n)
+static int find_run(const struct plain_entry *table, uint32_t block_count, uint32_t n)
 {
     uint32_t run = 0;
-    for (uint32_t i = 0; i < blocks; i++) {
+    for (uint32_t i = 0; i < block_count; i++) {
         if (table[i].use != FREE)
             run = 0;
         else if (++run == n)
@@ -53,18 +42,18 @@ static void free_run(struct plain_entry *table, uint32_t start, uint32_t n)
 }
 
 /* The entry of the run that starts there in that use, or a null pointer. */
-static struct plain_entry *run_at(struct plain_entry *table, uint32_t blocks, uint32_t start, uint8_t use)
+static struct plain_entry *run_at(struct plain_entry *table, uint32_t block_count, uint32_t start, uint8_t use)
 {
-    return start < blocks && table[start].use == use ? &table[start] : NULL;
+    return start < block_count && table[start].use == use ? &table[start] : NULL;
 }
 
 /* Checks 23 and 24. */
 static uint32_t find_room(const struct plain_end *end, uint32_t k, uint32_t *start, uint32_t *count)
 {
     uint32_t n = blocks_for(&end->tx, k);
-    if (n > end->tx.blocks)
+    if (n > end->tx.block_count)
         return 23;
-    int found = find_run(end->sent, end->tx.blocks, n);
+    int found = find_run(end->sent, end->tx.block_count, n);
     if (found < 0)
         return 24;
     *start = (uint32_t)found;
@@ -87,7 +76,7 @@ uint32_t plain_drop(struct plain_end *end, uint32_t start)
 {
     if (!end->open)
         return 6;
-    struct plain_entry *run = run_at(end->sent, end->tx.blocks, start, RESERVED);
+    struct plain_entry *run = run_at(end->sent, end->tx.block_count, start, RESERVED);
     if (!run)
         return 25;
     free_run(end->sent, start, run->count);
@@ -105,16 +94,16 @@ static struct plain_endpoint *endpoint_at(struct plain_end *end, uint8_t stage, 
 uint32_t plain_send(struct plain_end *end, uint8_t *tx, size_t tx_length, uint32_t start, uint32_t address, uint32_t k,
                     uint8_t control[3])
 {
-    if (!end->open || tx_length != end->tx.bytes)
+    if (!end->open || tx_length != end->tx.length)
         return 6;
-    struct plain_entry *run = run_at(end->sent, end->tx.blocks, start, RESERVED);
+    struct plain_entry *run = run_at(end->sent, end->tx.block_count, start, RESERVED);
     if (!run)
         return 25;
     if (!endpoint_at(end, BOUND, address))
         return 15;
     if ((uint64_t)k + HEADER > run->count * end->tx.block_size)
         return 23;
-    store(tx + end->tx.first_block + start * end->tx.block_size, k);
+    store(tx + end->tx.blocks_offset + start * end->tx.block_size, k);
     uint32_t n = blocks_for(&end->tx, k);
     free_run(end->sent, start + n, run->count - n);
     *run = (struct plain_entry){SENT_DATA, (uint8_t)address, (uint16_t)n, k};
@@ -128,7 +117,7 @@ uint32_t plain_done(struct plain_end *end, uint32_t start, uint8_t control[3])
 {
     if (!end->open)
         return 6;
-    struct plain_entry *run = run_at(end->held, end->rx.blocks, start, RECEIVED);
+    struct plain_entry *run = run_at(end->held, end->rx.block_count, start, RECEIVED);
     if (!run)
         return 25;
     free_run(end->held, start, run->count);
@@ -144,10 +133,10 @@ uint32_t plain_done(struct plain_end *end, uint32_t start, uint8_t control[3])
 static uint32_t measure(const struct plain_end *end, const uint8_t *rx, uint8_t block, uint32_t *k, uint32_t *count)
 {
     const struct plain_region *region = &end->rx;
-    if (block >= region->blocks)
+    if (block >= region->block_count)
         return 16;
-    *k = load(rx + region->first_block + block * region->block_size);
-    if ((uint64_t)*k + HEADER > (region->blocks - block) * region->block_size)
+    *k = load(rx + region->blocks_offset + block * region->block_size);
+    if ((uint64_t)*k + HEADER > (region->block_count - block) * region->block_size)
         return 17;
     *count = blocks_for(region, *k);
     for (uint32_t i = block; i < block + *count; i++)
@@ -174,9 +163,9 @@ static uint32_t data_arrives(struct plain_end *end, const uint8_t *rx, uint8_t a
 
 static uint32_t data_is_released(struct plain_end *end, uint8_t block)
 {
-    if (block >= end->tx.blocks)
+    if (block >= end->tx.block_count)
         return 16;
-    struct plain_entry *run = run_at(end->sent, end->tx.blocks, block, SENT_DATA);
+    struct plain_entry *run = run_at(end->sent, end->tx.block_count, block, SENT_DATA);
     if (!run)
         return 25;
     free_run(end->sent, block, run->count);
@@ -218,7 +207,7 @@ static uint32_t binding_arrives(struct plain_end *end, const uint8_t *rx, uint8_
     uint32_t number = measure(end, rx, block, &k, &count);
     if (number)
         return number;
-    const uint8_t *text = rx + end->rx.first_block + block * end->rx.block_size + HEADER;
+    const uint8_t *text = rx + end->rx.blocks_offset + block * end->rx.block_size + HEADER;
     const uint8_t *zero = memchr(text, 0, k < PLAIN_NAME ? k : PLAIN_NAME);
     if (!zero || zero == text)
         return 20;
@@ -248,9 +237,9 @@ static uint32_t binding_is_released(struct plain_end *end, uint8_t address, uint
 {
     if (address > LAST_ADDRESS)
         return 14;
-    if (block >= end->tx.blocks)
+    if (block >= end->tx.block_count)
         return 16;
-    struct plain_entry *run = run_at(end->sent, end->tx.blocks, block, SENT_BINDING);
+    struct plain_entry *run = run_at(end->sent, end->tx.block_count, block, SENT_BINDING);
     if (!run || run->address != address)
         return 25;
     free_run(end->sent, block, run->count);
@@ -263,7 +252,7 @@ static uint32_t binding_is_released(struct plain_end *end, uint8_t address, uint
 uint32_t plain_arrival(struct plain_end *end, const uint8_t *rx, size_t rx_length, const uint8_t *message,
                        size_t message_length, struct plain_outcome *outcome)
 {
-    if (!end->open || rx_length != end->rx.bytes)
+    if (!end->open || rx_length != end->rx.length)
         return 6;
     if (message_length == 0)
         return 12;
@@ -312,7 +301,7 @@ static uint32_t initiate(struct plain_end *end, struct plain_endpoint *e, uint8_
     e->stage = WAITING;
     memcpy(e->name, name, PLAIN_NAME);
     take_run(end->sent, start, count, SENT_BINDING, e->address, k);
-    uint8_t *message = tx + end->tx.first_block + start * end->tx.block_size;
+    uint8_t *message = tx + end->tx.blocks_offset + start * end->tx.block_size;
     store(message, k);
     memcpy(message + HEADER, name, k);
     *outcome = (struct plain_outcome){PLAIN_CONTROL, 2, e->address, (uint8_t)start, 0};
@@ -341,7 +330,7 @@ static void follow(struct plain_end *end, struct plain_endpoint *e, const char *
 uint32_t plain_register(struct plain_end *end, uint8_t *tx, size_t tx_length, const char *name, size_t name_length,
                         struct plain_outcome *outcome)
 {
-    if (!end->open || tx_length != end->tx.bytes)
+    if (!end->open || tx_length != end->tx.length)
         return 6;
     if (name_length < 1 || name_length >= PLAIN_NAME || memchr(name, 0, name_length))
         return 20;

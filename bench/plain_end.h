@@ -18,9 +18,9 @@ struct plain_entry {
 };
 
 struct plain_region {
-    uint32_t bytes;
-    uint32_t first_block;
-    uint32_t blocks;
+    uint32_t length;
+    uint32_t blocks_offset;
+    uint32_t block_count;
     uint32_t block_size;
 };
 
@@ -52,7 +52,7 @@ struct plain_end {
 struct plain_bounds {
     uint32_t begin;
     uint32_t end;
-    uint32_t blocks;
+    uint32_t block_count;
 };
 
 /* What an arrival or a registration comes to: nothing more, a message for its endpoint, or a control message to be sent. */

@@ -1,32 +1,27 @@
-/* The proved ring and the plain C ring side by side: nanoseconds for a push and a pull together, by the content's length.
- * Both have the same interface, layout and checks. Each round runs one after the other, and the least of all rounds counts. */
-#define _POSIX_C_SOURCE 199309L
+/* The proved ring and the plain C ring side by side: nanoseconds for a push and a pull together, by the content's length, and for a
+ * pull that finds nothing. Both have the same interface, layout and checks. Each round runs one after the other, and the least of all
+ * rounds counts. */
+#include "seconds.h"
+
 #include "plain_ring.h"
 
 #include <petrelknob.h>
 #include <stdio.h>
 #include <stdlib.h>
 #include <string.h>
-#include <time.h>
 
 /* 256 blocks each way: the ring then has 8,156 data bytes, enough for the longest content. */
-enum { BEGIN = 0x20070000, BYTES = 32768, END = BEGIN + BYTES, BLOCKS = 256, ALIGNMENT = 32, LONGEST = 4000, ROUNDS = 41 };
+enum { BEGIN = 0x20070000, LENGTH = 32768, END = BEGIN + LENGTH, BLOCKS = 256, ALIGNMENT = 32, LONGEST = 4000 };
+enum { LOOKS = 200000, ROUNDS = 41 };
 
 typedef uint32_t push_call(uint32_t, uint32_t, uint32_t, uint32_t, uint32_t, uint32_t, uint8_t *, size_t,
                            const uint8_t *, size_t, uint32_t *, size_t);
 typedef uint32_t pull_call(uint32_t, uint32_t, uint32_t, uint32_t, uint32_t, uint32_t, uint8_t *, size_t, uint8_t *,
                            size_t, uint32_t *, size_t);
 
-static uint8_t region[BYTES];
+static uint8_t region[LENGTH];
 static uint8_t content[LONGEST];
 static uint8_t buffer[LONGEST];
-
-static double seconds(void)
-{
-    struct timespec now;
-    clock_gettime(CLOCK_MONOTONIC, &now);
-    return (double)now.tv_sec + 1e-9 * (double)now.tv_nsec;
-}
 
 /* Nanoseconds for a pair, over `pairs` pairs on a cleared region. */
 static double round_of(push_call *push, pull_call *pull, size_t length, uint32_t pairs)
@@ -35,8 +30,8 @@ static double round_of(push_call *push, pull_call *pull, size_t length, uint32_t
     memset(region, 0, sizeof region);
     double began = seconds();
     for (uint32_t i = 0; i < pairs; i++) {
-        if (push(BEGIN, END, BLOCKS, BLOCKS, ALIGNMENT, written[1], region, BYTES, content, length, written, 2) != 0 ||
-            pull(BEGIN, END, BLOCKS, BLOCKS, ALIGNMENT, read[1], region, BYTES, buffer, LONGEST, read, 2) != 0 ||
+        if (push(BEGIN, END, BLOCKS, BLOCKS, ALIGNMENT, written[1], region, LENGTH, content, length, written, 2) != 0 ||
+            pull(BEGIN, END, BLOCKS, BLOCKS, ALIGNMENT, read[1], region, LENGTH, buffer, LONGEST, read, 2) != 0 ||
             read[0] != length) {
             fprintf(stderr, "a push or a pull of %zu bytes was refused\n", length);
             exit(1);
@@ -50,24 +45,62 @@ static double round_of(push_call *push, pull_call *pull, size_t length, uint32_t
     return 1e9 * took / pairs;
 }
 
+/* Nanoseconds for a pull of an empty ring: the checks, and one look at the partner's index. */
+static double look_of(pull_call *pull)
+{
+    uint32_t read[2] = {0, 0};
+    memset(region, 0, sizeof region);
+    double began = seconds();
+    for (uint32_t i = 0; i < LOOKS; i++) {
+        if (pull(BEGIN, END, BLOCKS, BLOCKS, ALIGNMENT, read[1], region, LENGTH, buffer, LONGEST, read, 2) != PETRELKNOB_EMPTY) {
+            fprintf(stderr, "a pull of an empty ring found something\n");
+            exit(1);
+        }
+    }
+    return 1e9 * (seconds() - began) / LOOKS;
+}
+
+static void print(const char *what, double plain, double proved)
+{
+    printf("%-28s %9.1f %8.1f %7.2f\n", what, plain, proved, proved / plain);
+}
+
+static void compare_pairs(size_t length)
+{
+    uint32_t pairs = length < 100 ? 200000 : 50000;
+    double plain = 1e9, proved = 1e9;
+    char what[32];
+    for (int r = 0; r < ROUNDS; r++) {
+        double a = round_of(plain_push, plain_pull, length, pairs);
+        double b = round_of(petrelknob_push, petrelknob_pull, length, pairs);
+        plain = a < plain ? a : plain;
+        proved = b < proved ? b : proved;
+    }
+    snprintf(what, sizeof what, "push and pull, %4zu bytes", length);
+    print(what, plain, proved);
+}
+
+static void compare_looks(void)
+{
+    double plain = 1e9, proved = 1e9;
+    for (int r = 0; r < ROUNDS; r++) {
+        double a = look_of(plain_pull);
+        double b = look_of(petrelknob_pull);
+        plain = a < plain ? a : plain;
+        proved = b < proved ? b : proved;
+    }
+    print("pull of an empty ring", plain, proved);
+}
+
 int main(void)
 {
     static const size_t lengths[] = {3, 64, 1000, 4000};
     for (size_t i = 0; i < sizeof content; i++)
         content[i] = (uint8_t)(i * 7 + 1);
 
-    printf("push and pull together, ns      plain C   proved   ratio\n");
-    for (size_t i = 0; i < sizeof lengths / sizeof lengths[0]; i++) {
-        size_t length = lengths[i];
-        uint32_t pairs = length < 100 ? 200000 : 50000;
-        double plain = 1e9, proved = 1e9;
-        for (int r = 0; r < ROUNDS; r++) {
-            double a = round_of(plain_push, plain_pull, length, pairs);
-            double b = round_of(petrelknob_push, petrelknob_pull, length, pairs);
-            plain = a < plain ? a : plain;
-            proved = b < proved ? b : proved;
-        }
-        printf("%5zu bytes of content        %9.1f %8.1f %7.2f\n", length, plain, proved, proved / plain);
-    }
+    printf("nanoseconds                    plain C   proved   ratio\n");
+    for (size_t i = 0; i < sizeof lengths / sizeof lengths[0]; i++)
+        compare_pairs(lengths[i]);
+    compare_looks();
     return 0;
 }

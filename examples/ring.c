@@ -1,5 +1,6 @@
-/* Two processes, as two cores would, talk through two regions of shared memory: the panel asks, the pump answers.
- * Each keeps its own indexes; nothing but the regions is shared. */
+/* Two processes, as two cores would, talk through two regions of shared memory. Each starts its ring and waits for the other's start
+ * packet; then the panel asks and the pump answers. Nothing but the regions is shared. The bytes are seen in the order in which they
+ * are written because this is x86-64: docs/SHARED-MEMORY.md. */
 #define _DEFAULT_SOURCE
 #include <petrelknob.h>
 #include <stdio.h>
@@ -9,64 +10,146 @@
 #include <sys/wait.h>
 #include <unistd.h>
 
+enum { ALIGNMENT = 32, REGION_LENGTH = 2048, BUFFER_LENGTH = 1024, WAITS = 100000, PAUSE_MICROSECONDS = 100 };
+
 /* The regions of the public specification's example: the panel transmits in the first and the pump in the second. */
-struct region {
-    uint32_t begin, end, local_blocks, remote_blocks;
-    uint8_t *bytes;
+static const struct petrelknob_region to_pump = {0x20070000, 0x20070000 + REGION_LENGTH, 16, 32, ALIGNMENT};
+static const struct petrelknob_region to_panel = {0x20078000, 0x20078000 + REGION_LENGTH, 32, 16, ALIGNMENT};
+
+/* One side of the link, with its own indexes. */
+struct side {
+    const char *name;
+    struct petrelknob_direction says, hears;
 };
 
-enum { ALIGNMENT = 32 };
-
-static struct region to_pump = {0x20070000, 0x20070800, 16, 32, NULL};
-static struct region to_panel = {0x20078000, 0x20078800, 32, 16, NULL};
-
-/* One direction of the link, as one side sees it: the region, and the side's own index of its ring. */
-struct line {
-    const struct region *region;
-    uint32_t own_index;
-};
-
-static void fail(const char *who, const char *what, uint32_t number)
+static void expect_accepted(const char *who, const char *call, uint32_t number)
 {
-    printf("%s %s refused, number %u\n", who, what, (unsigned)number);
+    if (number == PETRELKNOB_ACCEPTED)
+        return;
+    printf("%s: %s refused, number %u: %s\n", who, call, (unsigned)number, petrelknob_meaning(number));
     exit(1);
 }
 
+/* The buffers here take any packet, so that none is cut. */
+static void open_direction(const char *who, struct petrelknob_direction *direction, const struct petrelknob_region *region,
+                           uint8_t *memory)
+{
+    expect_accepted(who, "open", petrelknob_direction_open(direction, region, memory, REGION_LENGTH));
+    if (petrelknob_largest_content(direction->data_length) > BUFFER_LENGTH) {
+        printf("%s: a packet may be longer than the buffer\n", who);
+        exit(1);
+    }
+}
+
 /* What is pushed is printed first, so that the other side's lines follow. */
-static void say(const char *who, struct line *line, const char *text)
+static void say(struct side *side, const char *text)
 {
-    const struct region *r = line->region;
-    uint32_t answer[PETRELKNOB_RING_VALUES];
-    printf("%s pushes \"%s\" at write index %u\n", who, text, (unsigned)line->own_index);
+    printf("%s pushes \"%s\" at write index %u\n", side->name, text, (unsigned)side->says.own_index);
     fflush(stdout);
-    uint32_t number = petrelknob_push(r->begin, r->end, r->local_blocks, r->remote_blocks, ALIGNMENT, line->own_index, r->bytes,
-                                      r->end - r->begin, (const uint8_t *)text, strlen(text), answer, PETRELKNOB_RING_VALUES);
-    if (number != PETRELKNOB_ACCEPTED)
-        fail(who, "push", number);
-    line->own_index = answer[PETRELKNOB_OWN_INDEX];
+    expect_accepted(side->name, "push", petrelknob_direction_push(&side->says, text, strlen(text)));
 }
 
-/* Waits for the next packet. A real link would wait for the other core's doorbell. */
-static void hear(const char *who, struct line *line, char *text, size_t size)
+/* Waits for the next packet, for ten seconds at least. A real link would wait for the other core's doorbell. */
+static size_t hear(struct side *side, uint8_t *content)
 {
-    const struct region *r = line->region;
-    uint32_t answer[PETRELKNOB_RING_VALUES];
-    uint32_t number;
-    while ((number = petrelknob_pull(r->begin, r->end, r->local_blocks, r->remote_blocks, ALIGNMENT, line->own_index, r->bytes,
-                                     r->end - r->begin, (uint8_t *)text, size - 1, answer, PETRELKNOB_RING_VALUES)) ==
-           PETRELKNOB_EMPTY)
-        usleep(100);
-    if (number != PETRELKNOB_ACCEPTED)
-        fail(who, "pull", number);
-    text[answer[PETRELKNOB_LENGTH] < size - 1 ? answer[PETRELKNOB_LENGTH] : size - 1] = 0;
-    printf("%s pulls  \"%s\" at read index %u\n", who, text, (unsigned)line->own_index);
+    uint32_t at = side->hears.own_index;
+    uint32_t number = PETRELKNOB_EMPTY;
+    size_t length = 0;
+    for (int wait = 0; wait < WAITS && number == PETRELKNOB_EMPTY; wait++) {
+        if (wait > 0)
+            usleep(PAUSE_MICROSECONDS);
+        number = petrelknob_direction_pull(&side->hears, content, BUFFER_LENGTH, &length);
+    }
+    expect_accepted(side->name, "pull", number);
+    printf("%s pulls  \"%.*s\" at read index %u\n", side->name, (int)length, (const char *)content, (unsigned)at);
     fflush(stdout);
-    line->own_index = answer[PETRELKNOB_OWN_INDEX];
+    return length;
 }
 
-static uint8_t *share(size_t bytes)
+/* Starts this side's ring and waits for the partner's start packet, for ten seconds at least. Memory that nobody cleared may hold
+ * anything until the partner starts its ring: each try begins at read index 0, where its start packet will be. */
+static void meet(struct side *side)
 {
-    void *memory = mmap(NULL, bytes, PROT_READ | PROT_WRITE, MAP_SHARED | MAP_ANONYMOUS, -1, 0);
+    uint8_t content[BUFFER_LENGTH];
+    size_t length;
+    expect_accepted(side->name, "start", petrelknob_direction_start(&side->says));
+    for (int wait = 0; wait < WAITS; wait++) {
+        struct petrelknob_direction hears = side->hears;
+        if (petrelknob_direction_pull(&hears, content, sizeof content, &length) == PETRELKNOB_ACCEPTED &&
+            petrelknob_is_start(content, length)) {
+            side->hears = hears;
+            return;
+        }
+        usleep(PAUSE_MICROSECONDS);
+    }
+    printf("%s: the partner has not started its ring\n", side->name);
+    exit(1);
+}
+
+static const char *const questions[] = {"pressure?", "flow?", "calibration set by hand: 1.0375", "bye"};
+static const char *const answers[] = {"7.2 bar", "1,240 l/min", "taken", "bye"};
+enum { ROUNDS = sizeof questions / sizeof questions[0] };
+
+static void pump(uint8_t *to_pump_memory, uint8_t *to_panel_memory)
+{
+    struct side side = {.name = "  pump"};
+    uint8_t content[BUFFER_LENGTH];
+    open_direction(side.name, &side.says, &to_panel, to_panel_memory);
+    open_direction(side.name, &side.hears, &to_pump, to_pump_memory);
+    meet(&side);
+    for (int i = 0; i < ROUNDS; i++) {
+        size_t length = hear(&side, content);
+        int known = length == strlen(questions[i]) && memcmp(content, questions[i], length) == 0;
+        say(&side, known ? answers[i] : "what?");
+    }
+}
+
+static void panel(uint8_t *to_pump_memory, uint8_t *to_panel_memory)
+{
+    struct side side = {.name = "panel "};
+    uint8_t content[BUFFER_LENGTH];
+    open_direction(side.name, &side.says, &to_pump, to_pump_memory);
+    open_direction(side.name, &side.hears, &to_panel, to_panel_memory);
+    meet(&side);
+    printf("panel  has pulled the pump's start packet: write index %u, read index %u\n", (unsigned)side.says.own_index,
+           (unsigned)side.hears.own_index);
+    for (int i = 0; i < ROUNDS; i++) {
+        say(&side, questions[i]);
+        hear(&side, content);
+    }
+}
+
+static uint32_t told(const char *what, uint32_t number)
+{
+    printf("%s: number %u, %s\n", what, (unsigned)number, petrelknob_meaning(number));
+    return number;
+}
+
+/* The longest content of an empty ring, and a partner that breaks the rule: refused by number, and nothing changes. */
+static int limits(uint8_t *memory)
+{
+    static const uint8_t zeros[REGION_LENGTH];
+    struct petrelknob_direction says, hears;
+    uint8_t content[BUFFER_LENGTH];
+    size_t length;
+    open_direction("limits", &says, &to_pump, memory);
+    open_direction("limits", &hears, &to_pump, memory);
+    expect_accepted("limits", "start", petrelknob_direction_start(&says));
+    expect_accepted("limits", "pull", petrelknob_direction_pull(&hears, content, sizeof content, &length));
+
+    uint32_t largest = petrelknob_largest_content(says.data_length);
+    printf("the ring is empty, and takes a content of %u bytes\n", (unsigned)largest);
+    int one_more = told("one byte more", petrelknob_direction_push(&says, zeros, largest + 1)) == PETRELKNOB_FULL;
+    int as_many = told("as many", petrelknob_direction_push(&says, zeros, largest)) == PETRELKNOB_ACCEPTED;
+    memset(memory + ALIGNMENT, 0xFF, 4);
+    int broken = told("a write index of 0xFFFFFFFF", petrelknob_direction_pull(&hears, content, sizeof content, &length)) ==
+                 PETRELKNOB_BAD_INDEX;
+    return one_more && as_many && broken ? 0 : 1;
+}
+
+static uint8_t *share(void)
+{
+    void *memory = mmap(NULL, REGION_LENGTH, PROT_READ | PROT_WRITE, MAP_SHARED | MAP_ANONYMOUS, -1, 0);
     if (memory == MAP_FAILED) {
         perror("mmap");
         exit(1);
@@ -74,59 +157,22 @@ static uint8_t *share(size_t bytes)
     return memory;
 }
 
-static const char *const questions[] = {"pressure?", "flow?", "calibration set by hand: 1.0375", "bye"};
-static const char *const answers[] = {"7.2 bar", "1,240 l/min", "taken", "bye"};
-enum { ROUNDS = sizeof questions / sizeof questions[0] };
-
-static void pump(void)
-{
-    struct line hears = {&to_pump, 0}, says = {&to_panel, 0};
-    char text[64];
-    for (int i = 0; i < ROUNDS; i++) {
-        hear("  pump", &hears, text, sizeof text);
-        say("  pump", &says, strcmp(text, questions[i]) == 0 ? answers[i] : "what?");
-    }
-}
-
-static void panel(void)
-{
-    struct line hears = {&to_panel, 0}, says = {&to_pump, 0};
-    char text[64];
-    for (int i = 0; i < ROUNDS; i++) {
-        say("panel ", &says, questions[i]);
-        hear("panel ", &hears, text, sizeof text);
-    }
-}
-
 int main(void)
 {
-    /* Memory from mmap is zero, so both rings are empty. */
-    to_pump.bytes = share(to_pump.end - to_pump.begin);
-    to_panel.bytes = share(to_panel.end - to_panel.begin);
-
-    fflush(stdout);
+    uint8_t *to_pump_memory = share(), *to_panel_memory = share();
     pid_t child = fork();
     if (child < 0) {
         perror("fork");
         return 1;
     }
     if (child == 0) {
-        pump();
+        pump(to_pump_memory, to_panel_memory);
         exit(0);
     }
-    panel();
+    panel(to_pump_memory, to_panel_memory);
 
     int status;
     if (waitpid(child, &status, 0) != child || status != 0)
         return 1;
-
-    /* A partner that breaks the rule is refused by number, and nothing changes. */
-    uint32_t answer[PETRELKNOB_RING_VALUES];
-    uint8_t content[16];
-    memset(to_panel.bytes + ALIGNMENT, 0xFF, 4);
-    uint32_t number = petrelknob_pull(to_panel.begin, to_panel.end, to_panel.local_blocks, to_panel.remote_blocks, ALIGNMENT, 0,
-                                      to_panel.bytes, to_panel.end - to_panel.begin, content, sizeof content, answer,
-                                      PETRELKNOB_RING_VALUES);
-    printf("a write index of 0xFFFFFFFF: number %u, length %u\n", (unsigned)number, (unsigned)answer[PETRELKNOB_LENGTH]);
-    return number == PETRELKNOB_BAD_INDEX ? 0 : 1;
+    return limits(to_pump_memory);
 }

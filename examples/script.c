@@ -1,10 +1,11 @@
 /* Builds a short call script in memory, runs it, and prints what came of each record: an initiator that registers an endpoint and
  * prepares a message, and calls that are refused. docs/SCRIPT.md has the format. */
+#include <petrelknob.h>
 #include <petrelknob_script.h>
 #include <stdio.h>
 #include <string.h>
 
-enum { REGION_BYTES = 2048, MOST_RECORDS = 32, MOST_SCRIPT_BYTES = 1024 };
+enum { REGION_LENGTH = 2048, MOST_RECORDS = 32, MOST_SCRIPT_BYTES = 1024 };
 
 static uint8_t script[MOST_SCRIPT_BYTES];
 static size_t script_length;
@@ -67,9 +68,9 @@ static void build(void)
     bytes_record("register \"pump\" again", PETRELKNOB_RECORD_REGISTER, "pump", 4);
     record("reserve 200 bytes", PETRELKNOB_RECORD_RESERVE, NUMBERS(200));
     record("room of start 1", PETRELKNOB_RECORD_ROOM, NUMBERS(1));
-    record("room question, 2048 bytes", PETRELKNOB_RECORD_ROOM_QUESTION, NUMBERS(1, REGION_BYTES));
-    record("room question, 2047 bytes", PETRELKNOB_RECORD_ROOM_QUESTION, NUMBERS(1, REGION_BYTES - 1));
-    record("room question, start 2", PETRELKNOB_RECORD_ROOM_QUESTION, NUMBERS(2, REGION_BYTES));
+    record("room question, 2048 bytes", PETRELKNOB_RECORD_ROOM_QUESTION, NUMBERS(1, REGION_LENGTH));
+    record("room question, 2047 bytes", PETRELKNOB_RECORD_ROOM_QUESTION, NUMBERS(1, REGION_LENGTH - 1));
+    record("room question, start 2", PETRELKNOB_RECORD_ROOM_QUESTION, NUMBERS(2, REGION_LENGTH));
     record("send, not bound yet", PETRELKNOB_RECORD_SEND, NUMBERS(1, 0, 200));
     bytes_record("the partner's release", PETRELKNOB_RECORD_ARRIVAL, "\3\0\0", 3);
     record("send 20 of the 200 bytes", PETRELKNOB_RECORD_SEND, NUMBERS(1, 0, 20));
@@ -105,6 +106,7 @@ static const char *given(const uint8_t *row)
 
 static void print_row(const char *text, const uint8_t *row)
 {
+    uint32_t number = number_at(row, PETRELKNOB_ROW_NUMBER);
     uint32_t count = number_at(row, PETRELKNOB_ROW_VALUES);
     uint32_t size = number_at(row, PETRELKNOB_ROW_PLACE_SIZE);
     char answer[64] = "";
@@ -115,13 +117,14 @@ static void print_row(const char *text, const uint8_t *row)
     if (size > 0)
         snprintf(answer + used, sizeof answer - used, " place %u, %u bytes",
                  (unsigned)number_at(row, PETRELKNOB_ROW_PLACE_BEGIN), (unsigned)size);
-    printf("%-28s %6u   %-13s %-22s %4u %2u\n", text, (unsigned)number_at(row, PETRELKNOB_ROW_NUMBER), given(row), answer,
+    printf("%-28s %6u   %-13s %-22s %4u %2u", text, (unsigned)number, given(row), answer,
            (unsigned)number_at(row, PETRELKNOB_ROW_FREE_TX), (unsigned)number_at(row, PETRELKNOB_ROW_FREE_RX));
+    printf("%s%s\n", number ? "   " : "", number ? petrelknob_meaning(number) : "");
 }
 
 int main(void)
 {
-    static uint8_t tx[REGION_BYTES], rx[REGION_BYTES], buffer[16];
+    static uint8_t tx[REGION_LENGTH], rx[REGION_LENGTH], buffer[16];
     static uint8_t rows[(1 + MOST_RECORDS) * PETRELKNOB_ROW_BYTES];
 
     build();
