@@ -1,8 +1,13 @@
-// Runs the call script on standard input (docs/SCRIPT.md), and prints each row as a line of decimal numbers.
+// Runs the call script on standard input (docs/SCRIPT.md), prints each row as a line of decimal numbers, and says where and why it
+// stopped early.
 ghost use mathlib.Core.Path.{_≡_};
 ghost use Prim.Native.Nat.{_+_, _≤_};
 ghost use lib.ListN.{length};
 use lines::Line;
+use script::kinds;
+use script::kinds::Body;
+use script::records;
+use script::records::Next;
 
 // The most bytes of a script, and of its rows: 4,681 of them.
 fn space() -> [u8; 262144]
@@ -41,6 +46,79 @@ fn print_rows(rows: &[u8], n: usize) {
     }
 }
 
+// ---- where it stopped
+
+// The most bytes of a body.
+const MOST: usize = 65535;
+
+// The position behind the opening and the records that gave rows.
+fn behind(script: &[u8], rows: usize) -> usize {
+    let mut p = wire::least(records::OPENING, script.len());
+    let mut i = 1;
+    while i < rows {
+        match records::first_record(&script[p..]) {
+            Next::Stop => return p,
+            Next::Whole { kind: _, length } => {
+                let n = records::HEADER + wire::least(length, MOST);
+                p += wire::least(n, script.len() - p);
+            }
+        }
+        i += 1;
+    }
+    p
+}
+
+// A number of bytes; a script has at most 262,144.
+fn count(line: Line, n: usize) -> Line {
+    line.number(wire::least(n, 262144) as u32)
+}
+
+// A body of n bytes where the kind has another.
+fn wanted(line: Line, kind: u8, n: usize) -> Line {
+    match kinds::body_of(kind) {
+        Body::Exactly(m) => {
+            let line = count(line.text(b"body of "), n);
+            count(line.text(b" bytes where "), m).text(b" are wanted")
+        }
+        Body::AtLeast(m) => {
+            let line = count(line.text(b"body of "), n);
+            count(line.text(b" bytes where "), m).text(b" or more are wanted")
+        }
+        _ => line.text(b"unknown kind ").number(wire::wide(kind)),
+    }
+}
+
+// Why no record follows: what is left is no whole record, or one that the format does not have; else its row did not fit.
+fn why(line: Line, rest: &[u8]) -> Line {
+    let n = rest.len();
+    if n < records::HEADER {
+        return count(line.text(b"a record of 3 bytes or more where "), n).text(b" are left");
+    }
+    let length = wire::read_u16(rest, 1) as usize;
+    if n - records::HEADER < length {
+        let line = count(line.text(b"a record of "), records::HEADER + length);
+        return count(line.text(b" bytes where "), n).text(b" are left");
+    }
+    match records::first_record(rest) {
+        Next::Stop => wanted(line, rest[0], length),
+        Next::Whole { kind: _, length: _ } => line.text(b"no space for its row"),
+    }
+}
+
+// Says where and why the script stopped, unless it ran to its end.
+fn print_stop(script: &[u8], rows: usize) {
+    let line = Line::new().text(b"stops at byte ");
+    if rows == 0 {
+        let line = count(line.text(b"0: an opening of 22 bytes where "), script.len());
+        line.text(b" are left").print();
+        return;
+    }
+    let p = behind(script, rows);
+    if p < script.len() {
+        why(count(line, p).text(b": "), &script[p..]).print();
+    }
+}
+
 fn main() {
     let mut script = space();
     let length = io::read_full(0, &mut script);
@@ -50,4 +128,5 @@ fn main() {
     let mut rows = space();
     let written = script::run(&script[..length], &mut tx, &mut rx, &mut buffer, &mut rows);
     print_rows(&rows, written);
+    print_stop(&script[..length], written / 56);
 }
