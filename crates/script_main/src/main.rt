@@ -73,6 +73,15 @@ fn count(line: Line, n: usize) -> Line {
     line.number(wire::least(n, 262144) as u32)
 }
 
+fn left(line: Line, n: usize) -> Line {
+    let line = count(line, n);
+    if n == 1 {
+        line.text(b" is left")
+    } else {
+        line.text(b" are left")
+    }
+}
+
 // A body of n bytes where the kind has another.
 fn wanted(line: Line, kind: u8, n: usize) -> Line {
     match kinds::body_of(kind) {
@@ -92,16 +101,16 @@ fn wanted(line: Line, kind: u8, n: usize) -> Line {
 fn why(line: Line, rest: &[u8]) -> Line {
     let n = rest.len();
     if n < records::HEADER {
-        return count(line.text(b"a record of 3 bytes or more where "), n).text(b" are left");
+        return left(line.text(b"a record header of 3 bytes where "), n);
     }
     let length = wire::read_u16(rest, 1) as usize;
     if n - records::HEADER < length {
         let line = count(line.text(b"a record of "), records::HEADER + length);
-        return count(line.text(b" bytes where "), n).text(b" are left");
+        return left(line.text(b" bytes where "), n);
     }
     match records::first_record(rest) {
         Next::Stop => wanted(line, rest[0], length),
-        Next::Whole { kind: _, length: _ } => line.text(b"no space for its row"),
+        Next::Whole { kind: _, length: _ } => line.text(b"the output is full"),
     }
 }
 
@@ -109,8 +118,7 @@ fn why(line: Line, rest: &[u8]) -> Line {
 fn print_stop(script: &[u8], rows: usize) {
     let line = Line::new().text(b"stops at byte ");
     if rows == 0 {
-        let line = count(line.text(b"0: an opening of 22 bytes where "), script.len());
-        line.text(b" are left").print();
+        left(line.text(b"0: an opening of 22 bytes where "), script.len()).print();
         return;
     }
     let p = behind(script, rows);
