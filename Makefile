@@ -17,7 +17,7 @@ script = target/staticlib/libscript.a
 rounds = target/staticlib/librounds.a
 compared = target/second/release/second
 shown = layout ring
-examples = $(shown) script
+examples = $(shown) hello script
 
 .PHONY: help demo starter panel library script_main script region need-file test examples-test packets second soak faults bench \
   measure instructions clean
@@ -114,7 +114,7 @@ target/bin/%: $$(call files_of,$$*)
 	@touch $@
 
 # Each example is linked with the library whose functions it calls.
-target/examples/layout target/examples/ring: $(panel)
+target/examples/layout target/examples/ring target/examples/hello: $(panel)
 target/examples/script: $(script)
 target/examples/%: examples/%.c include/petrelknob.h include/petrelknob_script.h
 	@mkdir -p $(@D)

@@ -136,8 +136,8 @@ enum petrelknob_ring_value {
 };
 
 /* Starts the ring of a region that this side transmits in: writes both indexes as zero and puts a packet with the start content
- * on it, 13 bytes that tell the partner that the ring can be read. Each side starts its own ring before it pushes, and is bound
- * when it has pulled the partner's start packet, which is the first on a started ring (examples/ring.c).
+ * on it, 13 bytes that tell the partner that the ring can be read. Each side starts its own ring before it pushes, and can
+ * count on the partner when it has pulled its start packet, which is the first on a started ring (examples/ring.c).
  *
  * begin .. alignment   the region's numbers, as for its layout
  * region               the whole region, its first byte at address begin

@@ -3,7 +3,7 @@ use Rattle.region.proofs.AcceptedLayouts.{accepted-layouts-lie-inside}
 use Rattle.icmsg.proofs.Indexes.{indexes-in-rule, refusals as ring-refusals, used-bytes-stay-below}
 use Rattle.icmsg.proofs.RoundTrip.{push-and-pull, push-keeps-what-is-unread}
 use Rattle.icmsg.proofs.WritesInside.{writes-inside}
-use Rattle.icmsg.proofs.PullReads.{pull-reads-what-01-lists}
+use Rattle.icmsg.proofs.PullReads.{pull-reads-what-is-listed}
 use Rattle.icbmsg.specs.Promises.{Promises}
 use Rattle.icbmsg.proofs.RulesRead.{rules-read}
 use Rattle.icbmsg.proofs.Separate.{separate, disjoint, covered}
@@ -51,7 +51,7 @@ promises =
       no-room = no-room-exactly;
       names-kept = names-kept;
       address-lowest = address-lowest;
-      pull-reads = pull-reads-what-01-lists;
+      pull-reads = pull-reads-what-is-listed;
       rules-read = rules-read;
       newer-partner = newer-partner;
       changes-can-come = changes-can-come;

@@ -10,7 +10,7 @@ use Rattle.wire.specs.Reads.{Reads, gives, answer, positionsRead, andThen}
 use Rattle.icmsg.specs.Rules.{Answer, refused, accepted, answerNumber, Outcome as RingOutcome, pullRule as ringPull}
 use Rattle.icmsg.specs.Reading.{past, pullReads, isOneOf}
 use Rattle.icmsg.specs.declared.Ring.{Ring}
-use Rattle.icmsg.proofs.PullReads.{pull-reads-what-01-lists}
+use Rattle.icmsg.proofs.PullReads.{pull-reads-what-is-listed}
 use Rattle.icbmsg.specs.Outcome.{Outcome, ringRefused, Rule, check, guard}
 use Rattle.blocks.specs.Search.{Search, nowhere, foundAt}
 use Rattle.blocks.specs.Tables.{blocksFor}
@@ -65,7 +65,7 @@ unfolding rule lent step reading
 pull-reads e r b =
     rw (pull-answer e (length r) (length b) r, pull-asks e (length r) (length b) r)
     (pull-cases e (whole e (e .rx) (length r)) (ringOf (e .alignment) (e .rx)) (e .read) (length b) r _ (answer (ringPull (length r) (ringOf (e .alignment) (e .rx)) (e .read) (length b)) r)
-    (pull-reads-what-01-lists (length r) (ringOf (e .alignment) (e .rx)) (e .read) (length b) r))
+    (pull-reads-what-is-listed (length r) (ringOf (e .alignment) (e .rx)) (e .read) (length b) r))
 
 -- kind 0
 data-cases : (a b c f u : Bool) (H : List ℕ) (n : ℕ) → n ≡ pick a (pick b (pick c (pick f (pick u 0 18) 17) 16) 15) 14 →
