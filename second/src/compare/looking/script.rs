@@ -6,19 +6,8 @@ use crate::compare::traffic::{in_script_main, Case, Opponent};
 use crate::link::end::Opening;
 use crate::link::script::{Record, OPENING_BYTES, ROW_BYTES};
 
-/// A follower of the usual example: 16 transmit blocks of 96 bytes.
-const OPENING: Opening = Opening {
-    transmit_begin: 0x2007_0000,
-    transmit_end: 0x2007_0800,
-    receive_begin: 0x2007_8000,
-    receive_end: 0x2007_8800,
-    transmit_blocks: 16,
-    receive_blocks: 32,
-    alignment: 32,
-};
-
 fn script(records: &[Record]) -> Vec<u8> {
-    let mut script = OPENING.encode();
+    let mut script = Opening::EXAMPLE.encode();
     for record in records {
         record.encode(&mut script);
     }

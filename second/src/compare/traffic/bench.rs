@@ -19,17 +19,6 @@ struct Bench {
     transmit: (usize, &'static [u8]),
 }
 
-/// Two regions of 2 KiB, with blocks of 96 and of 32 bytes.
-const USUAL: Opening = Opening {
-    transmit_begin: 0x2007_0000,
-    transmit_end: 0x2007_0800,
-    receive_begin: 0x2007_8000,
-    receive_end: 0x2007_8800,
-    transmit_blocks: 16,
-    receive_blocks: 32,
-    alignment: 32,
-};
-
 /// Regions of so many bytes at alignment 4.
 const fn tiny(transmit: [u32; 2], receive: [u32; 2]) -> Opening {
     let [transmit_length, transmit_blocks] = transmit;
@@ -54,7 +43,7 @@ const fn run(start: u32, count: u32) -> Given {
 const BENCHES: [Bench; 6] = [
     Bench {
         name: "blocks that a message takes",
-        opening: USUAL,
+        opening: Opening::EXAMPLE,
         opened: 0,
         steps: &[
             (Record::Reserve { k: 92 }, 0, run(0, 1)),
@@ -71,14 +60,14 @@ const BENCHES: [Bench; 6] = [
     },
     Bench {
         name: "binding of `example`",
-        opening: USUAL.swapped(),
+        opening: Opening::EXAMPLE.swapped(),
         opened: 0,
         steps: &[(Record::Register(b"example"), 0, Given::Control([2, 0, 0]))],
         transmit: (0x400, b"\x08\0\0\0example\0"),
     },
     Bench {
         name: "packet for data, address 2, block 5",
-        opening: USUAL,
+        opening: Opening::EXAMPLE,
         opened: 0,
         steps: &[(CONTROL, 0, Given::Length(3))],
         transmit: (36, &[0x00, 0x03, 0x00, 0x00, 0x00, 0x02, 0x05, 0x00]),

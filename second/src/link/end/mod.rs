@@ -38,6 +38,18 @@ pub struct Opening {
 }
 
 impl Opening {
+    /// A follower of the public specification's example: regions of 2,048
+    /// bytes, transmit blocks of 96 bytes and receive blocks of 32.
+    pub const EXAMPLE: Opening = Opening {
+        transmit_begin: 0x2007_0000,
+        transmit_end: 0x2007_0800,
+        receive_begin: 0x2007_8000,
+        receive_end: 0x2007_8800,
+        transmit_blocks: 16,
+        receive_blocks: 32,
+        alignment: 32,
+    };
+
     pub fn transmit(&self) -> Request {
         Request {
             begin: self.transmit_begin,
