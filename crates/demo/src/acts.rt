@@ -12,8 +12,8 @@ use link::End;
 
 const ALIGNMENT: u32 = 32;
 
-// The region that the panel core sends in, and the one that the pump core sends in. The panel's end receives below where it sends: it is
-// the initiator.
+// The regions of the specification's example: the panel core sends in the first, and the pump core in the second. The pump's end receives
+// below where it sends: it is the initiator.
 const TO_PUMP: Bounds = Bounds {
     begin: 0x20070000,
     end: 0x20070800,
@@ -21,8 +21,8 @@ const TO_PUMP: Bounds = Bounds {
 };
 
 const TO_PANEL: Bounds = Bounds {
-    begin: 0x20060000,
-    end: 0x20060800,
+    begin: 0x20078000,
+    end: 0x20078800,
     block_count: 32,
 };
 
@@ -37,8 +37,9 @@ fn heading(title: &[u8]) {
 }
 
 pub fn legend() {
-    say(b"Two ends of one link in one process, over two regions of 2,048 bytes.");
+    say(b"ENDS. Two ends of one link in one process: binding, messages and their blocks");
     say(b"");
+    say(b"The panel sends in the region at 0x20070000, the pump in the one at 0x20078000.");
     say(b"Each line is a call: whose end, which call, its number, its values. Number 0 is");
     say(b"accepted, any other says why it is refused. A picture has a letter for each block");
     say(b"of one direction, in the sender's table and in the receiver's:");
@@ -62,10 +63,10 @@ pub fn open() -> Ends {
     Ends::new(from, to).start().turned().start().turned()
 }
 
-// The panel's end registers, and its binding arrives first: it is stored until the pump's end registers the same name.
+// The pump's end registers, and its binding arrives first: it is stored until the panel's end registers the same name.
 pub fn bind(ends: Ends) -> Ends {
     heading(b"2. Binding the endpoint calibration");
-    let ends = register(register(ends).turned()).turned();
+    let ends = register(register(ends.turned()).turned());
     show_endpoint(ends.from);
     show_endpoint(ends.to);
     ends

@@ -2,8 +2,8 @@
 use crate::calls;
 use crate::calls::After;
 use crate::calls::Memory;
+use crate::pictures;
 use crate::texts;
-use lines::Line;
 use link::Answer;
 use link::End;
 
@@ -30,8 +30,7 @@ impl Ends {
 
     // The blocks of the direction, as the sender's table has them and as the receiver's has them.
     pub fn show(self) {
-        let line = texts::sent_blocks(Line::picture(), self.from).text(b"  ");
-        texts::held_blocks(line, self.to).print();
+        pictures::show(self.from, self.to);
     }
 
     // The other direction: the end that received sends.

@@ -2,6 +2,7 @@
 mod acts;
 mod calls;
 mod ends;
+mod pictures;
 mod texts;
 
 fn main() {

@@ -4,32 +4,49 @@ use endpoints::Stage;
 use icbmsg::Numbers;
 use icbmsg::Region;
 use lines::Line;
-use lines::VALUES;
 use link::Answer;
-use link::End;
 use link::PacketAnswer;
+use refusal::Refusal;
+
+// The columns of a call's text, of the last digit of its number, and of its values.
+pub const CALL: usize = 7;
+
+const NUMBER: usize = 39;
+
+const VALUES: usize = 42;
 
 // The line of a call by an end with these numbers.
 pub fn by(n: Numbers, call: &[u8]) -> Line {
-    Line::by(n.initiator).text(call)
+    end_name(Line::new(), n).to(CALL).text(call)
 }
+
+// The pump core's end receives below where it sends: it is the initiator.
+pub fn end_name(line: Line, n: Numbers) -> Line {
+    if n.initiator {
+        line.text(b"pump")
+    } else {
+        line.text(b"panel")
+    }
+}
+
+// ---- answers
 
 // A call's number, and its values.
 pub fn answered(line: Line, a: Answer) -> Line {
     match a {
-        Answer::Refused(x) => line.refused(x),
-        Answer::Accepted => line.accepted(),
-        Answer::Run { start, count } => line.accepted().run(start, count),
+        Answer::Refused(x) => refused(line, x),
+        Answer::Accepted => accepted(line),
+        Answer::Run { start, count } => run(accepted(line), start, count),
         Answer::Control {
             kind,
             address,
             block,
-        } => line.accepted().control(kind, address, block),
+        } => control(accepted(line), kind, address, block),
         Answer::Delivered {
             address,
             block,
             length,
-        } => line.accepted().delivered(address, block, length),
+        } => delivered(accepted(line), address, block, length),
     }
 }
 
@@ -40,13 +57,46 @@ pub fn print_answered(line: Line, a: Answer) {
 // A ring call's number and length, and the own index that the end keeps.
 pub fn packet_answered(line: Line, a: PacketAnswer, index: u32) -> Line {
     match a {
-        PacketAnswer::Refused(x) => line.refused(x),
-        PacketAnswer::Length(k) => line.accepted().packet(k, index),
+        PacketAnswer::Refused(x) => refused(line, x),
+        PacketAnswer::Length(k) => packet(accepted(line), k, index),
     }
 }
 
 pub fn print_packet_answered(line: Line, a: PacketAnswer, index: u32) {
     packet_answered(line, a, index).print();
+}
+
+fn accepted(line: Line) -> Line {
+    line.to(NUMBER).text(b"0")
+}
+
+fn refused(line: Line, x: Refusal) -> Line {
+    let n = x.number();
+    let column = if n < 10 { NUMBER } else { NUMBER - 1 };
+    line.to(column).number(n).to(VALUES).meaning(x)
+}
+
+fn run(line: Line, start: u32, count: u32) -> Line {
+    let line = line.to(VALUES).text(b"start ").number(start);
+    line.text(b", ").counted(count, b"block")
+}
+
+fn control(line: Line, kind: u8, address: u8, block: u8) -> Line {
+    let bytes = [kind, address, block];
+    line.to(VALUES).text(b"to push:").hex_bytes(&bytes)
+}
+
+fn delivered(line: Line, address: u8, block: u8, length: u32) -> Line {
+    let line = line.to(VALUES)
+        .text(b"address ")
+        .number(wire::wide(address));
+    let line = line.text(b", block ").number(wire::wide(block));
+    line.text(b", ").bytes(length)
+}
+
+fn packet(line: Line, length: u32, index: u32) -> Line {
+    let line = line.to(VALUES).bytes(length);
+    line.text(b", own index ").number(index)
 }
 
 // A length as lines and calls take it. No text here is near the limit.
@@ -108,7 +158,7 @@ pub fn viewed(line: Line, text: &[u8]) -> Line {
     line.text(b" \"").text(text).text(b"\"")
 }
 
-// ---- what an end holds
+// ---- endpoints
 
 fn stage(line: Line, s: Stage) -> Line {
     match s {
@@ -118,20 +168,23 @@ fn stage(line: Line, s: Stage) -> Line {
     }
 }
 
+// A name ends at its first zero.
+fn name(line: Line, bytes: [u8; 32]) -> Line {
+    let mut line = line;
+    let mut i = 0;
+    while i < 32 {
+        if bytes[i] == 0 {
+            return line;
+        }
+        line = line.byte(bytes[i]);
+        i += 1;
+    }
+    line
+}
+
 pub fn endpoint(line: Line, p: Endpoint) -> Line {
-    let name = p.name;
+    let bytes = p.name;
     let s = p.stage;
-    let line = stage(line.name(name).to(VALUES), s).text(b", address ");
+    let line = stage(name(line, bytes).to(VALUES), s).text(b", address ");
     line.number(wire::wide(p.address))
-}
-
-// The blocks that an end sends in, and those that it receives in.
-pub fn sent_blocks(line: Line, end: End) -> Line {
-    let line = line.end_name(end.numbers.initiator);
-    line.table(&end.tables, tables::SENT, end.numbers.tx.block_count)
-}
-
-pub fn held_blocks(line: Line, end: End) -> Line {
-    let line = line.end_name(end.numbers.initiator);
-    line.table(&end.tables, tables::HELD, end.numbers.rx.block_count)
 }

@@ -1,16 +1,7 @@
 // A line of output, put together before it is written. What does not fit is left out.
-ghost use Prim.Native.Nat.{_≤_};
-use blocks::Use;
 use refusal::Refusal;
 
 const WIDTH: usize = 160;
-
-// The columns of a call's text, of the last digit of its number, and of its values.
-const CALL: usize = 7;
-
-const NUMBER: usize = 39;
-
-pub const VALUES: usize = 42;
 
 pub struct Line {
     bytes: [u8; WIDTH],
@@ -22,24 +13,6 @@ impl Line {
         Line {
             bytes: [b' '; WIDTH],
             length: 0,
-        }
-    }
-
-    // The line of a call by the panel core's end, which is the initiator, or by the pump core's.
-    pub fn by(initiator: bool) -> Line {
-        Line::new().end_name(initiator).to(CALL)
-    }
-
-    // A line that is no call stands back.
-    pub fn picture() -> Line {
-        Line::new().to(CALL)
-    }
-
-    pub fn end_name(self, initiator: bool) -> Line {
-        if initiator {
-            self.text(b"panel")
-        } else {
-            self.text(b"pump")
         }
     }
 
@@ -70,20 +43,6 @@ impl Line {
         line
     }
 
-    // A name ends at its first zero.
-    pub fn name(self, name: [u8; 32]) -> Line {
-        let mut line = self;
-        let mut i = 0;
-        while i < 32 {
-            if name[i] == 0 {
-                return line;
-            }
-            line = line.byte(name[i]);
-            i += 1;
-        }
-        line
-    }
-
     pub fn number(self, n: u32) -> Line {
         let mut digits = [0u8; 20];
         let k = io::decimal(n as u64, &mut digits);
@@ -108,7 +67,7 @@ impl Line {
     }
 
     // A count with its unit, which is in the plural but for one.
-    fn counted(self, n: u32, unit: &[u8]) -> Line {
+    pub fn counted(self, n: u32, unit: &[u8]) -> Line {
         let line = self.number(n).text(b" ").text(unit);
         if n == 1 { line } else { line.text(b"s") }
     }
@@ -126,43 +85,8 @@ impl Line {
         write_first(&bytes, self.length);
     }
 
-    // ---- answers
-
-    pub fn accepted(self) -> Line {
-        self.to(NUMBER).text(b"0")
-    }
-
-    pub fn refused(self, x: Refusal) -> Line {
-        let n = x.number();
-        let column = if n < 10 { NUMBER } else { NUMBER - 1 };
-        self.to(column).number(n).to(VALUES).meaning(x)
-    }
-
-    pub fn run(self, start: u32, count: u32) -> Line {
-        let line = self.to(VALUES).text(b"start ").number(start);
-        line.text(b", ").counted(count, b"block")
-    }
-
-    pub fn control(self, kind: u8, address: u8, block: u8) -> Line {
-        let bytes = [kind, address, block];
-        self.to(VALUES).text(b"to push:").hex_bytes(&bytes)
-    }
-
-    pub fn delivered(self, address: u8, block: u8, length: u32) -> Line {
-        let line = self.to(VALUES)
-            .text(b"address ")
-            .number(wire::wide(address));
-        let line = line.text(b", block ").number(wire::wide(block));
-        line.text(b", ").bytes(length)
-    }
-
-    pub fn packet(self, length: u32, index: u32) -> Line {
-        let line = self.to(VALUES).bytes(length);
-        line.text(b", own index ").number(index)
-    }
-
     // What a refusal means, in three parts: of regions and rings, of arriving control messages, and the rest.
-    fn meaning(self, x: Refusal) -> Line {
+    pub fn meaning(self, x: Refusal) -> Line {
         match x {
             Refusal::BadAlignment => self.text(b"alignment outside the limits"),
             Refusal::BadBlockCount => self.text(b"block count outside the limits"),
@@ -202,36 +126,6 @@ impl Line {
             Refusal::NoRoom => self.text(b"no run of free blocks is long enough"),
             _ => self.text(b"no such message starts there"),
         }
-    }
-
-    // ---- tables
-
-    // A letter for each of the first `count` blocks of the table at this base.
-    pub fn table(self, t: &[u8; tables::BYTES], base: usize, count: u16) -> Line
-        requires { ⌜ base ≤ 1568 ⌝ }
-    {
-        let mut line = self.text(b" [");
-        let end = wire::least(count as usize, blocks::BLOCKS);
-        let mut i = 0;
-        while i < end {
-            let x = tables::entry_at(&t[..], base, i);
-            let u = x.usage;
-            line = line.byte(letter(u));
-            i += 1;
-        }
-        line.byte(b']')
-    }
-}
-
-fn letter(u: Use) -> u8 {
-    match u {
-        Use::Free => b'.',
-        Use::Inside => b'-',
-        Use::Reserved => b'R',
-        Use::SentData => b'S',
-        Use::SentBinding => b'B',
-        Use::ReceivedData => b'D',
-        Use::StoredBinding => b'b',
     }
 }
 

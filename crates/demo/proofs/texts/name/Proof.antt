@@ -1,13 +1,13 @@
 use Prim.Native.Nat.{_≤_, _-_}
 use borrow.Author.Needs.{needs}
-use Rattle.lines.proofs.Line.name.Statement.{statement}
-use Rattle.lines.proofs.Line.name.Tie as tie
+use Rattle.demo.proofs.texts.name.Statement.{statement}
+use Rattle.demo.proofs.texts.name.Tie as tie
 
 abbrev Inv-loop : tie.InvT-loop
-Inv-loop name line₀ i₀ line i = i ≤ 32
+Inv-loop bytes line₀ i₀ line i = i ≤ 32
 
 abbrev μ-loop : tie.MeasureT-loop
-μ-loop name line₀ i₀ line i = 32 - i
+μ-loop bytes line₀ i₀ line i = 32 - i
 
 loop-holds : tie.Need-loop-holds Inv-loop μ-loop
 loop-holds c = search needs

@@ -1,7 +1,7 @@
 use Prim.Native.Nat.{_≤_, _-_}
 use borrow.Author.Needs.{needs}
-use Rattle.lines.proofs.Line.table.Statement.{statement}
-use Rattle.lines.proofs.Line.table.Tie as tie
+use Rattle.demo.proofs.pictures.table.Statement.{statement}
+use Rattle.demo.proofs.pictures.table.Tie as tie
 
 abbrev Inv-loop : tie.InvT-loop
 Inv-loop t base count line₀ end i₀ line i = (i ≤ end) × (end ≤ 256) × (base ≤ 1568)
