@@ -52,5 +52,6 @@ static int show(const char *name, uint32_t begin, uint32_t end, uint32_t local_b
 
 int main(void)
 {
+    puts("LAYOUT. Where the ring and the blocks of each region lie\n");
     return show("tx-region", 0x20070000, 0x20070800, 16, 32) | show("rx-region", 0x20078000, 0x20078800, 32, 16);
 }

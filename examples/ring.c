@@ -160,6 +160,8 @@ static uint8_t *share(void)
 int main(void)
 {
     uint8_t *to_pump_memory = share(), *to_panel_memory = share();
+    puts("RINGS. Two processes talk through the rings of these regions\n");
+    fflush(stdout);
     pid_t child = fork();
     if (child < 0) {
         perror("fork");

@@ -89,18 +89,12 @@ pub fn pull(mut end: End, rx: &mut Memory) -> Pulled {
 
 // ---- arrivals and registrations: what they change of endpoints and bindings is handed back
 
-// The end with these changes.
-fn changed(mut end: End, called: Called) -> After {
-    let endpoint = called.endpoint;
-    let endpoints = end.endpoints;
-    let endpoints = endpoint.applied(endpoints);
-    end.endpoints = endpoints;
-    let binding = called.binding;
-    let bindings = end.bindings;
-    let bindings = binding.applied(bindings);
-    end.bindings = bindings;
+fn changed(end: End, called: Called) -> After {
     let answer = called.answer;
-    After { answer, end }
+    After {
+        answer,
+        end: called.applied(end),
+    }
 }
 
 // The arrival of what was pulled.

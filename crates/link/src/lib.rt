@@ -7,6 +7,8 @@ mod openings;
 mod registrations;
 mod rings;
 
+ghost use mathlib.Core.Path.{_≡_};
+ghost use Rattle.link.specs.Answers.{endOf, calledOf};
 use endpoints::Binding;
 use endpoints::BindingChange;
 use endpoints::Endpoint;
@@ -84,4 +86,21 @@ pub struct Called {
     pub answer: Answer,
     pub endpoint: EndpointChange,
     pub binding: BindingChange,
+}
+
+impl Called {
+    // The end after the call, whose tables are changed already: with the endpoint and the stored binding that are handed back.
+    pub fn applied(self, mut end: End) -> End
+        ensures { λ r. ⌜ endOf r ≡ calledOf self (end .numbers) (end .tables) (end .endpoints) (end .bindings) .next ⌝ }
+    {
+        let endpoint = self.endpoint;
+        let endpoints = end.endpoints;
+        let endpoints = endpoint.applied(endpoints);
+        end.endpoints = endpoints;
+        let binding = self.binding;
+        let bindings = end.bindings;
+        let bindings = binding.applied(bindings);
+        end.bindings = bindings;
+        end
+    }
 }

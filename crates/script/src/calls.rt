@@ -47,19 +47,11 @@ fn of_answer(answer: Answer, end: End) -> Ran
 }
 
 // Of an arrival or a registration on the end, which is left with the changes that are handed back.
-fn of_call(c: Called, mut end: End) -> Ran
+fn of_call(c: Called, end: End) -> Ran
     ensures { λ r. ⌜ RanAs r (calledOf c (end .numbers) (end .tables) (end .endpoints) (end .bindings)) ⌝ }
 {
     let answer = c.answer;
-    let endpoint = c.endpoint;
-    let endpoints = end.endpoints;
-    let endpoints = endpoint.applied(endpoints);
-    end.endpoints = endpoints;
-    let binding = c.binding;
-    let bindings = end.bindings;
-    let bindings = binding.applied(bindings);
-    end.bindings = bindings;
-    of_answer(answer, end)
+    of_answer(answer, c.applied(end))
 }
 
 // Of a ring call on the end, which is left with the numbers that are handed back.

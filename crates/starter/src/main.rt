@@ -4,7 +4,6 @@ use icbmsg::Bounds;
 use icbmsg::Opening;
 use lines::Line;
 use link::Answer;
-use link::Called;
 use link::End;
 use link::PacketAnswer;
 use link::RingCalled;
@@ -69,7 +68,7 @@ fn register(core: Core, tx: &mut [u8], name: &[u8]) -> Core {
     let bindings = end.bindings;
     let called = End::register(end.numbers, endpoints, bindings, &mut end.tables, tx, name);
     let answer = called.answer;
-    answered(changed(end, called), tx, b"register", answer)
+    answered(called.applied(end), tx, b"register", answer)
 }
 
 // Sends a text to the first endpoint: reserves blocks, fills their room, and pushes what announces the message. A text that is too long for
@@ -139,7 +138,7 @@ fn arrive(mut end: End, tx: &mut [u8], rx: &[u8], packet: &[u8]) -> Core {
     let bindings = end.bindings;
     let called = End::arrival(numbers, endpoints, bindings, &mut end.tables, rx, packet);
     let answer = called.answer;
-    let end = changed(end, called);
+    let end = called.applied(end);
     if let Answer::Delivered { block, .. } = answer {
         return read(end, tx, rx, block as u32);
     }
@@ -181,27 +180,20 @@ fn ring_called(mut end: End, call: &[u8], called: RingCalled) -> Core {
     }
 }
 
-// A registration and an arrival hand back which endpoint and which stored binding has changed, if any.
-fn changed(mut end: End, called: Called) -> End {
-    let endpoint = called.endpoint;
-    let endpoints = end.endpoints;
-    let endpoints = endpoint.applied(endpoints);
-    end.endpoints = endpoints;
-    let binding = called.binding;
-    let bindings = end.bindings;
-    let bindings = binding.applied(bindings);
-    end.bindings = bindings;
-    end
-}
-
-// An empty ring is no trouble. Any other refusal stops the core; README.md says what a program can do instead.
+// An empty ring is no trouble, nor is a kind of message that only a newer partner knows. Any other refusal stops the core; README.md says
+// what a program can do instead.
 fn refused(end: End, call: Line, x: Refusal) -> Core {
-    if let Refusal::Empty = x {
-        return Core { end, going: true };
+    let going = match x {
+        Refusal::Empty => true,
+        Refusal::UnknownKind => true,
+        _ => false,
+    };
+    if going {
+        return Core { end, going };
     }
     let line = call.text(b" is refused, ").number(x.number());
     line.text(b": ").meaning(x).print();
-    Core { end, going: false }
+    Core { end, going }
 }
 
 // A line that begins with the core's name.

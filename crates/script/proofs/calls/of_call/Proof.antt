@@ -5,14 +5,11 @@ use Rattle.script.proofs.calls.of_call.Tie as tie
 applied-requires : tie.Need-applied-requires
 applied-requires c κs = search needs
 
-applied-requires-2 : tie.Need-applied-requires-2
-applied-requires-2 c κs = search needs
-
 of-answer-requires : tie.Need-of-answer-requires
 of-answer-requires c κs = search needs
 
 returns : tie.Need-returns
-returns c = rw (← (c .before .before .before .before .applied .ensures), ← (c .before .applied2 .ensures)) (c .of-answer .ensures)
+returns c = rw (← (c .before .applied .ensures)) (c .of-answer .ensures)
 
 pub of-call-spec : {M : Type 1} → statement M
-of-call-spec = tie.close (tie.spec applied-requires applied-requires-2 of-answer-requires returns)
+of-call-spec = tie.close (tie.spec applied-requires of-answer-requires returns)
