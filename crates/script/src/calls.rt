@@ -175,7 +175,7 @@ pub(super) fn step(
     ensures memory { λ _. ⌜ Leaves kind (now (body .entry)) (callOutcome (endOf end) kind (now (body .entry)) (take (lent .tx) (now (tx .entry))) (take (lent .rx) (now (rx .entry))) (now (buffer .entry))) (now (tx .entry)) (now (rx .entry)) (now (buffer .entry)) (now (tx .exit)) (now (rx .exit)) (now (buffer .exit)) ⌝ }
 {
     match kind {
-        kinds::WRITE_RECEIVE => {
+        kinds::WRITE_RX => {
             overwrite(rx, body);
             Stepped {
                 reply: [0; 9],
@@ -183,7 +183,7 @@ pub(super) fn step(
                 lent,
             }
         }
-        kinds::WRITE_TRANSMIT => {
+        kinds::WRITE_TX => {
             overwrite(tx, body);
             Stepped {
                 reply: [0; 9],

@@ -28,9 +28,9 @@ pub const ROOM_QUESTION: u8 = 20;
 
 pub const VIEW_QUESTION: u8 = 21;
 
-pub const WRITE_RECEIVE: u8 = 32;
+pub const WRITE_RX: u8 = 32;
 
-pub const WRITE_TRANSMIT: u8 = 33;
+pub const WRITE_TX: u8 = 33;
 
 pub const LEND: u8 = 34;
 
@@ -61,8 +61,8 @@ pub fn body_of(kind: u8) -> Body
         ROOM_QUESTION => Body::Exactly(8),
         VIEW_QUESTION => Body::Exactly(8),
         LEND => Body::Exactly(8),
-        WRITE_RECEIVE => Body::AtLeast(4),
-        WRITE_TRANSMIT => Body::AtLeast(4),
+        WRITE_RX => Body::AtLeast(4),
+        WRITE_TX => Body::AtLeast(4),
         _ => Body::Unknown,
     }
 }
