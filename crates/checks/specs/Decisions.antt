@@ -18,6 +18,7 @@ use Rattle.endpoints.specs.Endpoints.{waitingAt, boundNow, endpointAt, bindingA
 use Rattle.endpoints.specs.declared.Endpoint.{Endpoint}
 use Rattle.endpoints.specs.declared.Binding.{Binding}
 use Rattle.endpoints.specs.declared.Stage.the-variants.{Bound}
+use Rattle.icbmsg.specs.Regions.{blockCount, blockSize}
 use Rattle.icbmsg.specs.Outcome.{nothing, control, delivery, Outcome, refused, accepted, written, check}
 use Rattle.icbmsg.specs.Ends.{whole, blockAt, foundOr, changed, withSent, withHeld}
 use Rattle.icbmsg.specs.Messages.{reserveOf, reservation, sendOf}
@@ -48,15 +49,15 @@ RunAs (Live z) n p b x = (p ≡ true) × (b ≡ true) × (z ≡ x)
 abbrev pub FitAs : Space → Region → List Entry → ℕ → Type 0
 FitAs (Space.Refused x) g t k =
     (e : End) (f : ℕ → Outcome) →
-    check (leb (blocksFor (g .«block_size») k) (g .«block_count»)) 23 e (foundOr 24 e f (freeRun (g .«block_count») t (blocksFor (g .«block_size») k))) ≡ refused e (numberOf x)
+    check (leb (blocksFor (blockSize g) k) (blockCount g)) 23 e (foundOr 24 e f (freeRun (blockCount g) t (blocksFor (blockSize g) k))) ≡ refused e (numberOf x)
 FitAs (At s m) g t k =
-    (m ≡ blocksFor (g .«block_size») k) × (m ≤ g .«block_count») × (freeRun (g .«block_count») t m ≡ foundAt s) × (1 ≤ m) × (s + m ≤ g .«block_count»)
+    (m ≡ blocksFor (blockSize g) k) × (m ≤ blockCount g) × (freeRun (blockCount g) t m ≡ foundAt s) × (1 ≤ m) × (s + m ≤ blockCount g)
 
 abbrev pub ReservesAs : Space → Numbers → List ℕ → ℕ → Type 0
 ReservesAs (Space.Refused x) n t k =
     (ps : List Endpoint) (bs : List Binding) → reserveOf (joined n t ps bs) k ≡ refused (joined n t ps bs) (numberOf x)
 ReservesAs (At s m) n t k =
-    (m ≡ blocksFor (n .tx .«block_size») k) × (1 ≤ m) × (s + m ≤ 256)
+    (m ≡ blocksFor (blockSize (n .tx)) k) × (1 ≤ m) × (s + m ≤ 256)
     × ((ps : List Endpoint) (bs : List Binding) → reserveOf (joined n t ps bs) k ≡ reservation (joined n t ps bs) k s)
 
 -- n bytes lent, the reservation at s, address a, K bytes: c blocks are reserved and m needed
@@ -65,8 +66,8 @@ SendAs (Sending.Refused x) e n s a k = sendOf e n s a k ≡ refused e (numberOf 
 SendAs (Sending.Fits b c m) e n s a k =
     (sendOf e n s a k
     ≡ written (withSent e (taken (freed (e .sent) s c) SentData s m a k)) (control 0 a s) (writes (straight (blockAt (e .tx) s)) (littleEndian 4 k)))
-    × (b ≡ a) × (whole e (e .tx) n ≡ true) × (starts Reserved (e .tx .«block_count») (e .sent) s ≡ true) × (c ≡ entry (e .sent) s .count)
-    × (1 ≤ m) × (m ≤ c) × (k + 4 ≤ c * e .tx .«block_size»)
+    × (b ≡ a) × (whole e (e .tx) n ≡ true) × (starts Reserved (blockCount (e .tx)) (e .sent) s ≡ true) × (c ≡ entry (e .sent) s .count)
+    × (1 ≤ m) × (m ≤ c) × (k + 4 ≤ c * blockSize (e .tx))
 
 abbrev pub Sends : Sending → Numbers → List ℕ → List Endpoint → ℕ → ℕ → ℕ → ℕ → Type 0
 Sends r n t ps l s a k = (bs : List Binding) → SendAs r (joined n t ps bs) l s a k
@@ -88,7 +89,7 @@ ReleaseAs (Live z) e a b =
     ≡ accepted
     (changed e (e .write) (e .read) (freed (e .sent) b (z .count)) (e .held) (boundNow (e .endpoints) a (endpointAt (waitingAt a) (e .endpoints))) (e .bindings))
     nothing)
-    × (starts SentBinding (e .tx .«block_count») (e .sent) b ≡ true) × (z ≡ entry (e .sent) b)
+    × (starts SentBinding (blockCount (e .tx)) (e .sent) b ≡ true) × (z ≡ entry (e .sent) b)
 
 abbrev pub Releases : Run → Numbers → List ℕ → ℕ → ℕ → Type 0
 Releases r n t a b = (ps : List Endpoint) (bs : List Binding) → ReleaseAs r (joined n t ps bs) a b
@@ -125,7 +126,7 @@ NamedAs r e a b l = BindAs (r .binds) e a b (r .count) (r .name) (answer (boundR
 abbrev pub PlaceAs : Place → End → ℕ → List ℕ → List ℕ → Type 0
 PlaceAs (Place.Refused x) e l n kept = registerOf e l n ≡ refused e (numberOf x)
 PlaceAs (Place.At i) e l n kept =
-    (registerOf e l n ≡ pick (e .initiator) (initiates e n i) (followed e n i (bindingAt (holds (e .rx .«block_count») n) (e .bindings))))
+    (registerOf e l n ≡ pick (e .initiator) (initiates e n i) (followed e n i (bindingAt (holds (blockCount (e .rx)) n) (e .bindings))))
     × (whole e (e .tx) l ≡ true) × (goodName 31 n ≡ true) × (kept ≡ paddedName n)
 
 abbrev pub Registers : Registering → Numbers → List Endpoint → ℕ → List ℕ → Type 0

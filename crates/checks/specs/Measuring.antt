@@ -10,6 +10,7 @@ use Rattle.region.specs.Layout.{maxBlocks, maxBytes}
 use Rattle.blocks.specs.Search.{all}
 use Rattle.blocks.specs.Tables.{blocksFor}
 use Rattle.blocks.specs.declared.Entry.{Entry}
+use Rattle.icbmsg.specs.Regions.{blockCount, blockSize, blocksOffset}
 use Rattle.icbmsg.specs.Arrivals.{fitsArea, areFree}
 use Rattle.icbmsg.specs.declared.Region.{Region}
 use Rattle.checks.specs.declared.arrivals.Measured.{Measured}
@@ -17,11 +18,11 @@ use Rattle.checks.specs.declared.arrivals.Measured.the-variants.{Refused
 
 -- the region's blocks, at most 256 and of 4 bytes at least, lie in the n bytes that are lent
 abbrev pub areLent : ℕ → Region → Bool
-areLent n g = all (leb 4 (g .«block_size») ∷ leb (g .«block_count») maxBlocks ∷ leb (g .«blocks_offset» + g .«block_count» * g .«block_size») n ∷ leb n maxBytes ∷ [])
+areLent n g = all (leb 4 (blockSize g) ∷ leb (blockCount g) maxBlocks ∷ leb (blocksOffset g + blockCount g * blockSize g) n ∷ leb n maxBytes ∷ [])
 
 -- 6, 16, 17, 18, for K bytes in block b of a region whose table is t
 abbrev pub placeNumber : ℕ → Region → List Entry → ℕ → ℕ → ℕ
-placeNumber n g t b k = check (areLent n g) 6 (check (ltb b (g .«block_count»)) 16 (check (fitsArea g b k) 17 (check (areFree t g b k) 18 0)))
+placeNumber n g t b k = check (areLent n g) 6 (check (ltb b (blockCount g)) 16 (check (fitsArea g b k) 17 (check (areFree t g b k) 18 0)))
 
 abbrev pub measuredNumber : Measured → ℕ
 measuredNumber (Refused x) = numberOf x
@@ -30,4 +31,4 @@ measuredNumber (Fits k n) = 0
 -- K, and its blocks, which lie inside
 abbrev pub MeasuredAs : Measured → Region → ℕ → ℕ → Type 0
 MeasuredAs (Refused x) g b k = Unit {0}
-MeasuredAs (Fits m n) g b k = (m ≡ k) × (n ≡ blocksFor (g .«block_size») k) × (1 ≤ n) × (b + n ≤ g .«block_count») × (k + 4 ≤ n * g .«block_size»)
+MeasuredAs (Fits m n) g b k = (m ≡ k) × (n ≡ blocksFor (blockSize g) k) × (1 ≤ n) × (b + n ≤ blockCount g) × (k + 4 ≤ n * blockSize g)

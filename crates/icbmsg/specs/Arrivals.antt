@@ -8,6 +8,7 @@ use Rattle.wire.specs.Choice.{pick}
 use Rattle.wire.specs.Bytes.{fromLittleEndian, straight, positions, bytesAt}
 use Rattle.wire.specs.Reads.{gives, reads, readEach}
 use Rattle.blocks.specs.declared.Entry.{Entry}
+use Rattle.icbmsg.specs.Regions.{blockCount, blockSize}
 use Rattle.icbmsg.specs.Outcome.{nothing, control, delivery, Outcome, refused, accepted, Rule, check, guard}
 use Rattle.blocks.specs.Search.{Search, nowhere, foundAt}
 use Rattle.blocks.specs.Tables.{entry, starts, allFree, freed, taken, blocksFor}
@@ -41,35 +42,35 @@ sizeAt g b r = fromLittleEndian (bytesAt r (headerAt g b))
 
 -- refusal 17: K + 4 ends with the last block. Refusal 18: its blocks are free
 abbrev pub fitsArea : Region → ℕ → ℕ → Bool
-fitsArea g b k = leb (k + 4) ((g .«block_count» - b) * g .«block_size»)
+fitsArea g b k = leb (k + 4) ((blockCount g - b) * blockSize g)
 
 abbrev pub areFree : List Entry → Region → ℕ → ℕ → Bool
-areFree t g b k = allFree t b (blocksFor (g .«block_size») k)
+areFree t g b k = allFree t b (blocksFor (blockSize g) k)
 
 -- A2, kind 0, checks 14, 15, 16, 17, 18: its run is taken, with address and K. A7: its size is read here and never again
 unfoldable pub dataRule : End → ℕ → ℕ → Rule
 dataRule e a b =
     guard (leb a 0xFD) 14 e
     (guard (someEndpoint (boundAt a) (e .endpoints)) 15 e
-    (guard (ltb b (e .rx .«block_count»)) 16 e
+    (guard (ltb b (blockCount (e .rx))) 16 e
     (readEach (headerAt (e .rx) b) (λ h. let k : ℕ = fromLittleEndian h in
     guard (fitsArea (e .rx) b k) 17 e
     (guard (areFree (e .held) (e .rx) b k) 18 e
-    (gives (accepted (withHeld e (taken (e .held) ReceivedData b (blocksFor (e .rx .«block_size») k) a k)) (delivery a b k))))))))
+    (gives (accepted (withHeld e (taken (e .held) ReceivedData b (blocksFor (blockSize (e .rx)) k) a k)) (delivery a b k))))))))
 
 -- A3, kind 1, checks 16, 25: sent data is freed. B7: by the count in its entry
 unfoldable pub releaseOf : End → ℕ → Outcome
 releaseOf e b =
-    check (ltb b (e .tx .«block_count»)) 16 e
-    (check (starts SentData (e .tx .«block_count») (e .sent) b) 25 e
+    check (ltb b (blockCount (e .tx))) 16 e
+    (check (starts SentData (blockCount (e .tx)) (e .sent) b) 25 e
     (accepted (withSent e (freed (e .sent) b (entry (e .sent) b .count))) nothing))
 
 -- A5, kind 3, checks 14, 16, 25: the sent binding is freed, and the endpoint that waits at its address is bound
 unfoldable pub releasedBoundOf : End → ℕ → ℕ → Outcome
 releasedBoundOf e a b =
     check (leb a 0xFD) 14 e
-    (check (ltb b (e .tx .«block_count»)) 16 e
-    (check (starts SentBinding (e .tx .«block_count») (e .sent) b && eqb (entry (e .sent) b .address) a) 25 e
+    (check (ltb b (blockCount (e .tx))) 16 e
+    (check (starts SentBinding (blockCount (e .tx)) (e .sent) b && eqb (entry (e .sent) b .address) a) 25 e
     (accepted
     (changed e (e .write) (e .read) (freed (e .sent) b (entry (e .sent) b .count)) (e .held)
     (boundNow (e .endpoints) a (endpointAt (waitingAt a) (e .endpoints))) (e .bindings))
@@ -109,14 +110,14 @@ unfoldable pub boundSized : End → ℕ → ℕ → ℕ → Rule
 boundSized e a b k =
     guard (fitsArea (e .rx) b k) 17 e
     (guard (areFree (e .held) (e .rx) b k) 18 e
-    (upToZero e (min k 32) (blockAt (e .rx) b + 4) (λ name. gives (boundNamed e a b (blocksFor (e .rx .«block_size») k) name))))
+    (upToZero e (min k 32) (blockAt (e .rx) b + 4) (λ name. gives (boundNamed e a b (blocksFor (blockSize (e .rx)) k) name))))
 
 -- A4, kind 2, checks 19, 14, 16, and behind them 17, 18, 20, 21, 22
 unfoldable pub boundRule : End → ℕ → ℕ → Rule
 boundRule e a b =
     guard (not (e .initiator)) 19 e
     (guard (leb a 0xFD) 14 e
-    (guard (ltb b (e .rx .«block_count»)) 16 e
+    (guard (ltb b (blockCount (e .rx))) 16 e
     (readEach (headerAt (e .rx) b) (λ h. boundSized e a b (fromLittleEndian h)))))
 
 abbrev pub decodedRule : End → Control → Rule

@@ -9,6 +9,7 @@ use Rattle.wire.specs.Choice.{pick}
 use Rattle.blocks.specs.Tables.{entry, blocksFor}
 use Rattle.blocks.specs.WellFormed.{BlockKind, free, inside, leading, blockKind, IsFree}
 use Rattle.blocks.specs.declared.Entry.{Entry}
+use Rattle.icbmsg.specs.Regions.{blockSize}
 use Rattle.icbmsg.specs.Outcome.{Given, nothing, aLength, aRun, control, delivery, Outcome}
 use Rattle.icbmsg.specs.Opening.{opening}
 use Rattle.icbmsg.specs.declared.Opening.{Opening}
@@ -77,9 +78,9 @@ registerChange n (delivery a b k) = no-change
 abbrev pub arrivalChange : Region → List ℕ → Control → Given → RunChange
 arrivalChange r rx UnknownKind g = no-change
 arrivalChange r rx TooShort g = no-change
-arrivalChange r rx (DataSent a b) g = deliveryChange (r .«block_size») g
+arrivalChange r rx (DataSent a b) g = deliveryChange (blockSize r) g
 arrivalChange r rx (DataReleased b) g = frees transmit b
-arrivalChange r rx (BindingSent a b) g = storedChange b (blocksFor (r .«block_size») (sizeAt r b rx)) g
+arrivalChange r rx (BindingSent a b) g = storedChange b (blocksFor (blockSize r) (sizeAt r b rx)) g
 arrivalChange r rx (BindingReleased a b) g = frees transmit b
 
 -- An accepted call, by its arguments and what came with its answer. t and r are the regions' numbers, which no call changes.
@@ -89,12 +90,12 @@ runChange t r (push tx c) g = no-change
 runChange t r (pull rx b) g = no-change
 runChange t r (reserve k) g = reserveChange g
 runChange t r (room tx s) g = no-change
-runChange t r (send tx s a k) g = trims transmit s (blocksFor (t .«block_size») k)
+runChange t r (send tx s a k) g = trims transmit s (blocksFor (blockSize t) k)
 runChange t r (drop s) g = frees transmit s
 runChange t r (arrival rx m) g = arrivalChange r rx (decode m) g
 runChange t r (view rx s) g = no-change
 runChange t r (done s) g = frees receive s
-runChange t r (register tx n) g = registerChange (blocksFor (t .«block_size») (length n + 1)) g
+runChange t r (register tx n) g = registerChange (blocksFor (blockSize t) (length n + 1)) g
 runChange t r (askRoom s n) g = no-change
 runChange t r (askView s n) g = no-change
 

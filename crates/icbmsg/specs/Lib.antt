@@ -1,3 +1,4 @@
+pub mod Regions
 pub mod End
 pub mod Outcome
 pub mod Ends

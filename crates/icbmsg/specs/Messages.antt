@@ -2,6 +2,7 @@
 use Prim.Native.Nat.{ℕ, _+_, _-_, _*_}
 use lib.Dec.{leb}
 use Rattle.wire.specs.Bytes.{littleEndian, straight, writes}
+use Rattle.icbmsg.specs.Regions.{blockCount, blockSize}
 use Rattle.icbmsg.specs.Outcome.{nothing, aRun, control, Outcome, accepted, written, placed, withoutPlace, check}
 use Rattle.blocks.specs.Tables.{entry, starts, startsData, freed, taken, blocksFor, freeRun}
 use Rattle.icbmsg.specs.Ends.{blockAt, isOpen, whole, foundOr, withSent, withHeld}
@@ -11,11 +12,11 @@ use Rattle.icbmsg.specs.End.{End}
 
 -- B1: the blocks that K bytes need
 abbrev pub need : End → ℕ → ℕ
-need e k = blocksFor (e .tx .«block_size») k
+need e k = blocksFor (blockSize (e .tx)) k
 
 -- B4, checks 23, 24: f is what is done with the lowest start that has free blocks enough for K bytes
 abbrev pub reserving : End → ℕ → (ℕ → Outcome) → Outcome
-reserving e k f = check (leb (need e k) (e .tx .«block_count»)) 23 e (foundOr 24 e f (freeRun (e .tx .«block_count») (e .sent) (need e k)))
+reserving e k f = check (leb (need e k) (blockCount (e .tx))) 23 e (foundOr 24 e f (freeRun (blockCount (e .tx)) (e .sent) (need e k)))
 
 -- B3, B9: the run is taken with neither address nor K; start and count are answered
 abbrev pub reservation : End → ℕ → ℕ → Outcome
@@ -28,38 +29,38 @@ reserveOf e k = check (isOpen e) 6 e (reserving e k (reservation e k))
 unfoldable pub roomOf : End → ℕ → ℕ → Outcome
 roomOf e n s =
     check (whole e (e .tx) n) 6 e
-    (check (starts Reserved (e .tx .«block_count») (e .sent) s) 25 e
-    (placed e (blockAt (e .tx) s + 4) (entry (e .sent) s .count * e .tx .«block_size» - 4)))
+    (check (starts Reserved (blockCount (e .tx)) (e .sent) s) 25 e
+    (placed e (blockAt (e .tx) s + 4) (entry (e .sent) s .count * blockSize (e .tx) - 4)))
 
 -- B5, checks 25, 15, 23: the header is written, what K does not need is freed, and 00 address start is for the partner
 unfoldable pub sendOf : End → ℕ → ℕ → ℕ → ℕ → Outcome
 sendOf e n s a k =
     check (whole e (e .tx) n) 6 e
-    (check (starts Reserved (e .tx .«block_count») (e .sent) s) 25 e
+    (check (starts Reserved (blockCount (e .tx)) (e .sent) s) 25 e
     (check (someEndpoint (boundAt a) (e .endpoints)) 15 e
-    (check (leb (k + 4) (entry (e .sent) s .count * e .tx .«block_size»)) 23 e
-    (written (withSent e (taken (freed (e .sent) s (entry (e .sent) s .count)) SentData s (blocksFor (e .tx .«block_size») k) a k))
+    (check (leb (k + 4) (entry (e .sent) s .count * blockSize (e .tx))) 23 e
+    (written (withSent e (taken (freed (e .sent) s (entry (e .sent) s .count)) SentData s (blocksFor (blockSize (e .tx)) k) a k))
     (control 0 a s) (writes (straight (blockAt (e .tx) s)) (littleEndian 4 k))))))
 
 -- B6: what is reserved is freed
 unfoldable pub dropOf : End → ℕ → Outcome
 dropOf e s =
     check (isOpen e) 6 e
-    (check (starts Reserved (e .tx .«block_count») (e .sent) s) 25 e
+    (check (starts Reserved (blockCount (e .tx)) (e .sent) s) 25 e
     (accepted (withSent e (freed (e .sent) s (entry (e .sent) s .count))) nothing))
 
 -- V2: K bytes behind the header, by the K in the entry
 unfoldable pub viewOf : End → ℕ → ℕ → Outcome
 viewOf e n s =
     check (whole e (e .rx) n) 6 e
-    (check (startsData (e .rx .«block_count») (e .rx .«block_size») (e .held) s) 25 e
+    (check (startsData (blockCount (e .rx)) (blockSize (e .rx)) (e .held) s) 25 e
     (placed e (blockAt (e .rx) s + 4) (entry (e .held) s .length)))
 
 -- V3: received data is freed, and 01 00 start is for the partner
 unfoldable pub doneOf : End → ℕ → Outcome
 doneOf e s =
     check (isOpen e) 6 e
-    (check (startsData (e .rx .«block_count») (e .rx .«block_size») (e .held) s) 25 e
+    (check (startsData (blockCount (e .rx)) (blockSize (e .rx)) (e .held) s) 25 e
     (accepted (withHeld e (freed (e .held) s (entry (e .held) s .count))) (control 1 0 s)))
 
 -- V4: the number alone, for a slice of n bytes

@@ -6,6 +6,7 @@ use mathlib.Core.List.{List, [], _∷_, _++_}
 use lib.ListN.{length, getD}
 use Rattle.wire.specs.Choice.{pick}
 use Rattle.wire.specs.Reads.{Agree}
+use Rattle.icbmsg.specs.Regions.{blockCount, blockSize}
 use Rattle.icbmsg.specs.Outcome.{Outcome, refused}
 use Rattle.blocks.specs.Tables.{blocksFor}
 use Rattle.icbmsg.specs.Ends.{isOpen}
@@ -22,14 +23,14 @@ use Rattle.icbmsg.specs.End.{End}
 pub record Grown (e : End) (b : ℕ) (r r′ : List ℕ) : Type 0 where
   pub lent : length r ≡ e .rx .length
   pub lent′ : length r′ ≡ e .rx .length
-  pub range : b < e .rx .«block_count»
-  pub fitting : sizeIn e b r + 4 ≤ (e .rx .«block_count» - b) * e .rx .«block_size»
+  pub range : b < blockCount (e .rx)
+  pub fitting : sizeIn e b r + 4 ≤ (blockCount (e .rx) - b) * blockSize (e .rx)
   pub zeroAt : ℕ
   pub inside : zeroAt < sizeIn e b r
   pub early : zeroAt < 32
   pub ended : getD r (contentAt e b + zeroAt) 0 ≡ 0
   pub larger : sizeIn e b r ≤ sizeIn e b r′
-  pub blocks : blocksFor (e .rx .«block_size») (sizeIn e b r′) ≡ blocksFor (e .rx .«block_size») (sizeIn e b r)
+  pub blocks : blocksFor (blockSize (e .rx)) (sizeIn e b r′) ≡ blocksFor (blockSize (e .rx)) (sizeIn e b r)
   pub stays : (i : ℕ) → i < sizeIn e b r → getD r′ (contentAt e b + i) 0 ≡ getD r (contentAt e b + i) 0
 
 -- N3: a call on the end e and the same call from a newer partner. Any number of changes at once is `both`.

@@ -11,6 +11,7 @@ use Rattle.icmsg.specs.Laws.{InRing}
 use Rattle.blocks.specs.Tables.{entry}
 use Rattle.blocks.specs.WellFormed.{Live}
 use Rattle.blocks.specs.declared.Entry.{Entry}
+use Rattle.icbmsg.specs.Regions.{blockCount, blockSize, blocksOffset}
 use Rattle.icbmsg.specs.Outcome.{Given, nothing, aLength, aRun, control, delivery, Outcome}
 use Rattle.icbmsg.specs.Ends.{blockAt}
 use Rattle.icbmsg.specs.Rings.{ringOf}
@@ -27,9 +28,9 @@ use Rattle.icbmsg.specs.End.{End}
 pub record InMessage (g : Region) (t : List Entry) (s : ℕ) (o : Outcome) : Type 0 where
   pub live : Live t s
   pub after-header : blockAt g s + 4 ≤ o .begin
-  pub before-end : o .begin + o .size ≤ blockAt g s + entry t s .count * g .«block_size»
-  pub first-block : g .«blocks_offset» ≤ o .begin
-  pub last-block : o .begin + o .size ≤ g .«blocks_offset» + g .«block_count» * g .«block_size»
+  pub before-end : o .begin + o .size ≤ blockAt g s + entry t s .count * blockSize g
+  pub first-block : blocksOffset g ≤ o .begin
+  pub last-block : o .begin + o .size ≤ blocksOffset g + blockCount g * blockSize g
 
 abbrev pub PartIn : End → Part → Outcome → Type 0
 PartIn e no-part o = (o .begin ≡ 0) × (o .size ≡ 0)
@@ -90,7 +91,7 @@ abbrev pub InArea : End → Area → List (ℕ × ℕ) → List (ℕ × ℕ) →
 InArea e no-area ts rs = (ts ≡ []) × (rs ≡ [])
 InArea e tx-ring ts rs = InRing (ringOf (e .alignment) (e .tx)) ts × (rs ≡ [])
 InArea e rx-ring ts rs = (ts ≡ []) × InRing (ringOf (e .alignment) (e .rx)) rs
-InArea e (own-run s n) ts rs = Within (blockAt (e .tx) s) (blockAt (e .tx) s + n * e .tx .«block_size») ts × (rs ≡ [])
+InArea e (own-run s n) ts rs = Within (blockAt (e .tx) s) (blockAt (e .tx) s + n * blockSize (e .tx)) ts × (rs ≡ [])
 
 -- f tells the area by what comes with the answer; the slices that are lent have t, r and b bytes
 pub record WritesIn (e : End) (f : Given → Area) (t r b : ℕ) (o : Outcome) : Type 0 where

@@ -5,6 +5,7 @@ use mathlib.Core.List.{List, [], _∷_, _++_}
 use lib.ListN.{length, getD, set}
 use Rattle.wire.specs.Choice.{pick}
 use Rattle.wire.specs.Bytes.{littleEndian, straight, writes}
+use Rattle.icbmsg.specs.Regions.{blockCount}
 use Rattle.icbmsg.specs.Outcome.{nothing, control, Outcome, accepted, written, check}
 use Rattle.blocks.specs.Search.{Search, nowhere, foundAt}
 use Rattle.blocks.specs.Tables.{freed, taken}
@@ -57,5 +58,5 @@ registerOf e l n =
     (check (goodName 31 n) 20 e
     (check (not (someEndpoint (registered n) (e .endpoints))) 21 e
     (foundOr 22 e
-    (λ i. pick (e .initiator) (initiates e n i) (followed e n i (bindingAt (holds (e .rx .«block_count») n) (e .bindings))))
+    (λ i. pick (e .initiator) (initiates e n i) (followed e n i (bindingAt (holds (blockCount (e .rx)) n) (e .bindings))))
     (endpointAt (at isUnused) (e .endpoints)))))

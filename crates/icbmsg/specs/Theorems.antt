@@ -15,6 +15,7 @@ use Rattle.blocks.specs.declared.Use.the-variants.{Free, Reserved, SentData, Se
 use Rattle.blocks.specs.declared.Entry.{Entry}
 use Rattle.endpoints.specs.Endpoints.{at, isUnused, registered, endpointAt, someEndpoint, uses, unusedFrom, holds, goodName}
 use Rattle.endpoints.specs.declared.Endpoint.{Endpoint}
+use Rattle.icbmsg.specs.Regions.{blockCount, blockSize}
 use Rattle.icbmsg.specs.Outcome.{Given, nothing, aLength, Outcome, refusedWith, refused}
 use Rattle.icbmsg.specs.Ends.{isOpen, whole}
 use Rattle.icbmsg.specs.Opening.{opening}
@@ -134,17 +135,17 @@ RunsStay =
 abbrev pub SendTrims : Type 0
 SendTrims =
     (e : End) → Reached e → (tx : List ℕ) (s a k : ℕ) → step e (send tx s a k) .number ≡ 0 →
-    (blocksFor (e .tx .«block_size») k ≤ entry (e .sent) s .count) × (entry (step e (send tx s a k) .next .sent) s ≡ runEntry SentData (blocksFor (e .tx .«block_size») k) a k)
+    (blocksFor (blockSize (e .tx)) k ≤ entry (e .sent) s .count) × (entry (step e (send tx s a k) .next .sent) s ≡ runEntry SentData (blocksFor (blockSize (e .tx)) k) a k)
 
 -- ---- O8: what the tests of total calls add refuses nothing
 
 -- 25 is given by the use alone: the tests that a run lies inside, and holds its data, are passed in every end reached
 pub record UseDecides (e : End) : Type 0 where
-  pub reserved : (s : ℕ) → starts Reserved (e .tx .«block_count») (e .sent) s ≡ inUse Reserved (e .sent) s
-  pub sent-data : (s : ℕ) → starts SentData (e .tx .«block_count») (e .sent) s ≡ inUse SentData (e .sent) s
-  pub sent-binding : (s : ℕ) → starts SentBinding (e .tx .«block_count») (e .sent) s ≡ inUse SentBinding (e .sent) s
-  pub received-data : (s : ℕ) → startsData (e .rx .«block_count») (e .rx .«block_size») (e .held) s ≡ inUse ReceivedData (e .held) s
-  pub stored-binding : (n : List ℕ) (j : ℕ) → holds (e .rx .«block_count») n (bindingOf (e .bindings) j) ≡ (bindingOf (e .bindings) j .stored && same (bindingOf (e .bindings) j .name) (paddedName n))
+  pub reserved : (s : ℕ) → starts Reserved (blockCount (e .tx)) (e .sent) s ≡ inUse Reserved (e .sent) s
+  pub sent-data : (s : ℕ) → starts SentData (blockCount (e .tx)) (e .sent) s ≡ inUse SentData (e .sent) s
+  pub sent-binding : (s : ℕ) → starts SentBinding (blockCount (e .tx)) (e .sent) s ≡ inUse SentBinding (e .sent) s
+  pub received-data : (s : ℕ) → startsData (blockCount (e .rx)) (blockSize (e .rx)) (e .held) s ≡ inUse ReceivedData (e .held) s
+  pub stored-binding : (n : List ℕ) (j : ℕ) → holds (blockCount (e .rx)) n (bindingOf (e .bindings) j) ≡ (bindingOf (e .bindings) j .stored && same (bindingOf (e .bindings) j .name) (paddedName n))
 
 abbrev pub NothingAdded : Type 0
 NothingAdded = (e : End) → Reached e → UseDecides e
@@ -160,22 +161,22 @@ AddressLowest = (ps : List Endpoint) → length ps ≡ 8 → someEndpoint (at is
 
 -- the least number of blocks that hold K + 4 bytes
 abbrev pub NeedLeast : Type 0
-NeedLeast = (e : End) (k : ℕ) → isOpen e ≡ true → (k + 4 ≤ need e k * e .tx .«block_size») × ((n : ℕ) → k + 4 ≤ n * e .tx .«block_size» → need e k ≤ n)
+NeedLeast = (e : End) (k : ℕ) → isOpen e ≡ true → (k + 4 ≤ need e k * blockSize (e .tx)) × ((n : ℕ) → k + 4 ≤ n * blockSize (e .tx) → need e k ≤ n)
 
 -- n free transmit blocks from s on
 abbrev pub FreeRun : End → ℕ → ℕ → Type 0
-FreeRun e n s = (s + n ≤ e .tx .«block_count») × ((i : ℕ) → s ≤ i → i < s + n → IsFree (e .sent) i)
+FreeRun e n s = (s + n ≤ blockCount (e .tx)) × ((i : ℕ) → s ≤ i → i < s + n → IsFree (e .sent) i)
 
 -- K bytes could fit an empty area, but no free run is long enough
 pub record Crowded (e : End) (k : ℕ) : Type 0 where
-  pub could-fit : need e k ≤ e .tx .«block_count»
+  pub could-fit : need e k ≤ blockCount (e .tx)
   pub no-run : (s : ℕ) → FreeRun e (need e k) s → ⊥
 
 -- What reserving K bytes gives, where f is what is done with the run: too long, no room, or the lowest run.
 pub data Reserves (e : End) (k : ℕ) (f : ℕ → Outcome) : Outcome → Type 0 where
-  too-long : e .tx .«block_count» < need e k → Reserves e k f (refused e 23)
+  too-long : blockCount (e .tx) < need e k → Reserves e k f (refused e 23)
   no-room : Crowded e k → Reserves e k f (refused e 24)
-  at-lowest : (s : ℕ) → need e k ≤ e .tx .«block_count» → FreeRun e (need e k) s → ((i : ℕ) → i < s → FreeRun e (need e k) i → ⊥) → Reserves e k f (f s)
+  at-lowest : (s : ℕ) → need e k ≤ blockCount (e .tx) → FreeRun e (need e k) s → ((i : ℕ) → i < s → FreeRun e (need e k) i → ⊥) → Reserves e k f (f s)
 
 -- a register that has passed its earlier checks (6, 20, 21, 22), at an initiator; entry i is for the endpoint
 pub record Registers (e : End) (tx n : List ℕ) (i : ℕ) : Type 0 where

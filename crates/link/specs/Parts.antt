@@ -8,6 +8,7 @@ use Rattle.blocks.specs.Names.{paddedName}
 use Rattle.endpoints.specs.Endpoints.{endpointsAfter, bindingsAfter, holds, bindingAt}
 use Rattle.endpoints.specs.declared.Endpoint.{Endpoint}
 use Rattle.endpoints.specs.declared.Binding.{Binding}
+use Rattle.icbmsg.specs.Regions.{blockCount}
 use Rattle.icbmsg.specs.Outcome.{Outcome, withoutWrites}
 use Rattle.icbmsg.specs.Arrivals.{releasedBoundOf}
 use Rattle.icbmsg.specs.Registering.{initiates, followed}
@@ -72,4 +73,4 @@ InitiatesTx n t ps name i s s′ = (bs : List Binding) → s′ ≡ wrote s (ini
 abbrev pub Follows : Called → Numbers → List ℕ → List Binding → List ℕ → ℕ → List ℕ → Type 0
 Follows r n t bs kept i t′ =
     (ps : List Endpoint) (name : List ℕ) → kept ≡ paddedName name →
-    calledOf r n t′ ps bs ≡ followed (joined n t ps bs) name i (bindingAt (holds (n .rx .«block_count») name) bs)
+    calledOf r n t′ ps bs ≡ followed (joined n t ps bs) name i (bindingAt (holds (blockCount (n .rx)) name) bs)

@@ -3,6 +3,7 @@ use Prim.Native.Nat.{ℕ, suc, _+_, _*_, _%_}
 use mathlib.Core.List.{List, [], _∷_}
 use lib.ListN.{length, getD}
 use Rattle.blocks.specs.Tables.{freeBlocks}
+use Rattle.icbmsg.specs.Regions.{blockCount}
 use Rattle.icbmsg.specs.Outcome.{Given, nothing, aLength, aRun, control, delivery, Outcome}
 use Rattle.icbmsg.specs.End.{End}
 
@@ -44,4 +45,4 @@ sum s = weighted 0 s % 65521
 abbrev pub rowOf : List ℕ → End → List ℕ → List ℕ → List ℕ → List ℕ
 rowOf begun e tx rx buffer =
     getD begun 0 0 ∷ getD begun 1 0 ∷ getD begun 2 0 ∷ getD begun 3 0 ∷ getD begun 4 0 ∷ getD begun 5 0 ∷ getD begun 6 0 ∷ getD begun 7 0
-    ∷ freeBlocks (e .tx .«block_count») (e .sent) ∷ freeBlocks (e .rx .«block_count») (e .held) ∷ sum tx ∷ sum rx ∷ sum buffer ∷ getD begun 8 0 ∷ []
+    ∷ freeBlocks (blockCount (e .tx)) (e .sent) ∷ freeBlocks (blockCount (e .rx)) (e .held) ∷ sum tx ∷ sum rx ∷ sum buffer ∷ getD begun 8 0 ∷ []
