@@ -86,17 +86,24 @@ static void meet(struct side *side)
     exit(1);
 }
 
+/* Opens both directions, and meets the partner. */
+static struct side open_side(const char *name, const struct petrelknob_region *says, uint8_t *says_memory,
+                             const struct petrelknob_region *hears, uint8_t *hears_memory)
+{
+    struct side side = {.name = name};
+    open_direction(name, &side.says, says, says_memory);
+    open_direction(name, &side.hears, hears, hears_memory);
+    meet(&side);
+    return side;
+}
+
 static const char *const questions[] = {"pressure?", "flow?", "calibration set by hand: 1.0375", "bye"};
 static const char *const answers[] = {"7.2 bar", "1,240 l/min", "taken", "bye"};
 enum { ROUNDS = sizeof questions / sizeof questions[0] };
 
-static void pump(uint8_t *to_pump_memory, uint8_t *to_panel_memory)
+static void pump(struct side side)
 {
-    struct side side = {.name = "  pump"};
     uint8_t content[BUFFER_LENGTH];
-    open_direction(side.name, &side.says, &to_panel, to_panel_memory);
-    open_direction(side.name, &side.hears, &to_pump, to_pump_memory);
-    meet(&side);
     for (int i = 0; i < ROUNDS; i++) {
         size_t length = hear(&side, content);
         int known = length == strlen(questions[i]) && memcmp(content, questions[i], length) == 0;
@@ -104,13 +111,9 @@ static void pump(uint8_t *to_pump_memory, uint8_t *to_panel_memory)
     }
 }
 
-static void panel(uint8_t *to_pump_memory, uint8_t *to_panel_memory)
+static void panel(struct side side)
 {
-    struct side side = {.name = "panel "};
     uint8_t content[BUFFER_LENGTH];
-    open_direction(side.name, &side.says, &to_pump, to_pump_memory);
-    open_direction(side.name, &side.hears, &to_panel, to_panel_memory);
-    meet(&side);
     printf("panel  has pulled the pump's start packet: write index %u, read index %u\n", (unsigned)side.says.own_index,
            (unsigned)side.hears.own_index);
     for (int i = 0; i < ROUNDS; i++) {
@@ -168,10 +171,10 @@ int main(void)
         return 1;
     }
     if (child == 0) {
-        pump(to_pump_memory, to_panel_memory);
+        pump(open_side("  pump", &to_panel, to_panel_memory, &to_pump, to_pump_memory));
         exit(0);
     }
-    panel(to_pump_memory, to_panel_memory);
+    panel(open_side("panel ", &to_pump, to_pump_memory, &to_panel, to_panel_memory));
 
     int status;
     if (waitpid(child, &status, 0) != child || status != 0)

@@ -22,12 +22,12 @@ fn held_blocks(line: Line, end: End) -> Line {
     table(line, &end.tables, tables::HELD, end.numbers.rx.block_count)
 }
 
-// A letter for each of the first `count` blocks of the table at this base.
-fn table(line: Line, t: &[u8; End::TABLES], base: usize, count: u16) -> Line
+// A letter for each of the first `block_count` blocks of the table at this base.
+fn table(line: Line, t: &[u8; End::TABLES], base: usize, block_count: u16) -> Line
     requires { ⌜ base ≤ 1568 ⌝ }
 {
     let mut line = line.text(b" [");
-    let end = wire::least(count as usize, End::BLOCKS);
+    let end = wire::least(block_count as usize, End::BLOCKS);
     let mut i = 0;
     while i < end {
         let x = tables::entry_at(&t[..], base, i);

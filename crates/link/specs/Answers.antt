@@ -47,6 +47,16 @@ outcomeOf c = answered (c .answer) (endOf (c .end))
 abbrev pub calledOf : Called → Numbers → List ℕ → List Endpoint → List Binding → Outcome
 calledOf c n t ps bs = answered (c .answer) (joined n t (endpointsAfter (c .endpoint) ps) (bindingsAfter (c .binding) bs))
 
+-- the code's end with what an arrival or a registration hands back; its numbers and its tables' bytes stay
+abbrev pub applied : Called → CodeEnd → CodeEnd
+applied c e =
+    record {
+      numbers = e .numbers;
+      tables = e .tables;
+      endpoints = endpointsAfter (c .endpoint) (e .endpoints);
+      bindings = bindingsAfter (c .binding) (e .bindings);
+    }
+
 -- of start, push and pull: the length, 0 on a refusal
 abbrev pub packetNumber : PacketAnswer → ℕ
 packetNumber (PacketAnswer.Length k) = 0

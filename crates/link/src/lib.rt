@@ -8,7 +8,7 @@ mod registrations;
 mod rings;
 
 ghost use mathlib.Core.Path.{_≡_};
-ghost use Rattle.link.specs.Answers.{endOf, calledOf};
+ghost use Rattle.link.specs.Answers.{applied as appliedTo};
 use endpoints::Binding;
 use endpoints::BindingChange;
 use endpoints::Endpoint;
@@ -91,7 +91,7 @@ pub struct Called {
 impl Called {
     // The end after the call, whose tables are changed already: with the endpoint and the stored binding that are handed back.
     pub fn applied(self, mut end: End) -> End
-        ensures { λ r. ⌜ endOf r ≡ calledOf self (end .numbers) (end .tables) (end .endpoints) (end .bindings) .next ⌝ }
+        ensures { λ r. ⌜ r ≡ appliedTo self end ⌝ }
     {
         let endpoint = self.endpoint;
         let endpoints = end.endpoints;

@@ -4,10 +4,10 @@ use Rattle.demo.proofs.pictures.table.Statement.{statement}
 use Rattle.demo.proofs.pictures.table.Tie as tie
 
 abbrev Inv-loop : tie.InvT-loop
-Inv-loop t base count line₀ end i₀ line i = (i ≤ end) × (end ≤ 256) × (base ≤ 1568)
+Inv-loop t base n line₀ end i₀ line i = (i ≤ end) × (end ≤ 256) × (base ≤ 1568)
 
 abbrev μ-loop : tie.MeasureT-loop
-μ-loop t base count line₀ end i₀ line i = end - i
+μ-loop t base n line₀ end i₀ line i = end - i
 
 slice-aggregate-text : tie.Need-slice-aggregate-text Inv-loop μ-loop
 slice-aggregate-text c = search needs

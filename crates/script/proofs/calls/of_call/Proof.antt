@@ -9,7 +9,7 @@ of-answer-requires : tie.Need-of-answer-requires
 of-answer-requires c κs = search needs
 
 returns : tie.Need-returns
-returns c = rw (← (c .before .applied .ensures)) (c .of-answer .ensures)
+returns c = rw (c .before .applied .ensures) at (c .of-answer .ensures)
 
 pub of-call-spec : {M : Type 1} → statement M
 of-call-spec = tie.close (tie.spec applied-requires of-answer-requires returns)
