@@ -192,7 +192,10 @@ fn break_packet(mut ends: Ends) -> Ends {
     let n = ends.from.numbers;
     let index = ends.to.numbers.read;
     put_length(&mut ends.region, n.tx, n.alignment, index);
-    let line = texts::by(n, b"core writes ff ff over the length of the packet at index ");
+    let line = texts::by(
+        n,
+        b"core writes ff ff over the length of the packet at index ",
+    );
     line.number(index).print();
     ends
 }

@@ -129,7 +129,9 @@ fn turn(core: Core, tx: &mut [u8], rx: &mut [u8]) -> Core {
 
 // A packet was broken, and it is gone with all that was behind it. What the other core pushes next is pulled again.
 fn dropped(end: End, bytes: u32) -> Core {
-    by(end).text(b"a broken packet, dropped ").bytes(bytes).print();
+    by(end).text(b"a broken packet, dropped ")
+        .bytes(bytes)
+        .print();
     Core { end, going: true }
 }
 
