@@ -168,6 +168,7 @@ impl Plan {
             }
         }
         let stated = match refusal {
+            Some(9) => Outcome::broken(self.partner_index, self.used),
             Some(number) => Outcome::refused(number, self.own_index),
             None => Outcome::accepted(self.content_length, self.start, self.place.data_length),
         };
