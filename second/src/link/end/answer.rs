@@ -83,18 +83,6 @@ impl Given {
     }
 }
 
-/// What is given, in words, by its number in a row.
-pub fn given_name(number: u32) -> &'static str {
-    match number {
-        0 => "nothing",
-        1 => "length",
-        2 => "run",
-        3 => "control bytes",
-        4 => "delivery",
-        _ => "unknown",
-    }
-}
-
 /// The slices that calls write to.
 #[derive(Clone, Copy, PartialEq, Eq)]
 pub enum Slice {

@@ -11,7 +11,7 @@ mod region;
 mod rings;
 mod runs;
 
-pub use answer::{given_name, Answer, Given, Outcome, Refused, Slice};
+pub use answer::{Answer, Given, Outcome, Refused, Slice};
 pub use binding::{Endpoint, Name, LONGEST_NAME, MOST_ENDPOINTS};
 pub use control::{Control, ControlKind, BOUND, CONTROL, DATA, RELEASE_BOUND};
 pub use messages::{Incoming, Outgoing};
