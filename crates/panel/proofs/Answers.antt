@@ -13,9 +13,7 @@ use Rattle.region.specs.Layout.{Outcome, outcomeOf}
 use Rattle.region.specs.declared.RegionLayout.{RegionLayout}
 use Rattle.region.specs.declared.LayoutAnswer.{LayoutAnswer}
 use Rattle.region.specs.declared.LayoutAnswer.the-variants.{Accepted, Refused}
-use Rattle.icmsg.specs.Rules.{answerOf, answerNumber}
-use Rattle.icmsg.specs.declared.RingAnswer.{RingAnswer}
-use Rattle.panel.specs.Answers.{answered, layoutNumbers, ringNumbers}
+use Rattle.panel.specs.Answers.{answered, layoutNumbers}
 
 -- s after the first i of the numbers
 abbrev pub afterFirst : List ℕ → List ℕ → ℕ → List ℕ
@@ -41,13 +39,3 @@ module _ (a : LayoutAnswer) (o : Outcome) (s t : List ℕ) (h : outcomeOf a ≡ 
   pub refused-layout : (x : Refusal) (n : ℕ) → a ≡ Refused x → n ≡ numberOf x → t ≡ answered s (replicate 5 0) →
       (n ≡ o .number) × (t ≡ answered s (layoutNumbers o))
   refused-layout x n e k q = rw (← h, e) (k, q)
-
--- each way out of a ring call: t is the caller's answer s afterwards
-module _ (a : RingAnswer) (own : ℕ) (s t : List ℕ) where
-  pub accepted-ring : (k i : ℕ) → a ≡ RingAnswer.Accepted k i → t ≡ answered s (k ∷ i ∷ []) →
-      (0 ≡ answerNumber (answerOf a)) × (t ≡ answered s (ringNumbers own (answerOf a)))
-  accepted-ring k i e q = rw e (refl, q)
-
-  pub refused-ring : (x : Refusal) (n : ℕ) → a ≡ RingAnswer.Refused x → n ≡ numberOf x → t ≡ answered s (0 ∷ own ∷ []) →
-      (n ≡ answerNumber (answerOf a)) × (t ≡ answered s (ringNumbers own (answerOf a)))
-  refused-ring x n e k q = rw e (k, q)

@@ -78,23 +78,14 @@ fn open_ring(begin: u32, end: u32, local: u32, remote: u32, alignment: u32, n: u
     }
 }
 
-// Puts a ring call's length and own index into the caller's answer, and gives its number.
+// Puts a ring call's length, own index and dropped bytes into the caller's answer, and gives its number.
 fn give(answer: &mut [u32], own: u32, a: RingAnswer) -> u32
     ensures number { λ r. ⌜ r ≡ answerNumber (answerOf a) ⌝ }
     ensures numbers { λ _. ⌜ now (answer .exit) ≡ answered (now (answer .entry)) (ringNumbers own (answerOf a)) ⌝ }
 {
-    match a {
-        RingAnswer::Accepted { length, index } => {
-            let numbers = [length, index];
-            put_numbers(answer, &numbers);
-            0
-        }
-        RingAnswer::Refused(x) => {
-            let numbers = [0, own];
-            put_numbers(answer, &numbers);
-            x.number()
-        }
-    }
+    let numbers = [a.length(), a.index_after(own), a.dropped()];
+    put_numbers(answer, &numbers);
+    a.number()
 }
 
 // Starts the region's ring: both indexes zero, then the packet with the start content. There is no own index before it.
