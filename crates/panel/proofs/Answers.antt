@@ -13,7 +13,8 @@ use Rattle.region.specs.Layout.{Outcome, outcomeOf}
 use Rattle.region.specs.declared.RegionLayout.{RegionLayout}
 use Rattle.region.specs.declared.LayoutAnswer.{LayoutAnswer}
 use Rattle.region.specs.declared.LayoutAnswer.the-variants.{Accepted, Refused}
-use Rattle.panel.specs.Answers.{answered, layoutNumbers}
+use Rattle.icmsg.specs.Rules.{Answer, lengthIn, droppedIn, indexAfter}
+use Rattle.panel.specs.Answers.{answered, layoutNumbers, ringNumbers}
 
 -- s after the first i of the numbers
 abbrev pub afterFirst : List ℕ → List ℕ → ℕ → List ℕ
@@ -39,3 +40,8 @@ module _ (a : LayoutAnswer) (o : Outcome) (s t : List ℕ) (h : outcomeOf a ≡ 
   pub refused-layout : (x : Refusal) (n : ℕ) → a ≡ Refused x → n ≡ numberOf x → t ≡ answered s (replicate 5 0) →
       (n ≡ o .number) × (t ≡ answered s (layoutNumbers o))
   refused-layout x n e k q = rw (← h, e) (k, q)
+
+-- and of a ring call: the answer's three numbers, as the code has them
+pub ring-given : (a : Answer) (own : ℕ) (s t : List ℕ) (k i n : ℕ) → k ≡ lengthIn a → i ≡ indexAfter own a → n ≡ droppedIn a → t ≡ answered s (k ∷ i ∷ n ∷ []) →
+    t ≡ answered s (ringNumbers own a)
+ring-given a own s t k i n p q r h = rw (← p, ← q, ← r) h

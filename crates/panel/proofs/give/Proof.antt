@@ -1,3 +1,5 @@
+use Rattle.icmsg.specs.Rules.{answerOf}
+use Rattle.panel.proofs.Answers.{ring-given}
 use borrow.Author.Needs.{needs}
 use Rattle.panel.proofs.give.Statement.{statement}
 use Rattle.panel.proofs.give.Tie as tie
@@ -27,7 +29,8 @@ returns : tie.Need-returns
 returns c =
     let p = c .before .before .before in
     let d = p .before .before .before in
-    (c .number .ensures, rw (← d .dropped .ensures, ← d .before .index-after .ensures, ← d .before .before .length .ensures) (p .put-numbers .ensures))
+    let a = d .before .before .before .before .args in
+    (c .number .ensures, ring-given (answerOf (a .a)) (a .own) _ _ _ _ _ (d .before .before .length .ensures) (d .before .index-after .ensures) (d .dropped .ensures) (p .put-numbers .ensures))
 
 pub give-spec : {M : Type 1} → statement M
 give-spec =
