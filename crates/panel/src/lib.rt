@@ -1,7 +1,8 @@
 // The interface for C: layout, start, push and pull on plain numbers and slices. include/petrelknob.h declares it.
 ghost use mathlib.Core.Path.{_≡_};
+ghost use Prim.Native.Nat.{_≤_};
 ghost use lib.ListN.{length};
-ghost use Rattle.wire.specs.Bytes.{wrote, same};
+ghost use Rattle.wire.specs.Bytes.{straight, bytes, writes, wrote, same};
 ghost use Rattle.region.specs.Layout.{layout};
 ghost use Rattle.icmsg.specs.Ring.{startContent};
 ghost use Rattle.icmsg.specs.Rules.{answerOf, answerNumber};
@@ -18,15 +19,26 @@ enum Opened {
     Refused(Refusal),
 }
 
-// Puts as many of the numbers as fit into the caller's answer.
-fn put_numbers(answer: &mut [u32], numbers: &[u32])
-    ensures { λ _. ⌜ now (answer .exit) ≡ answered (now (answer .entry)) (now (numbers .entry)) ⌝ }
+// Puts the first n of the numbers into the caller's answer.
+fn fill(answer: &mut [u32], numbers: &[u32], n: usize)
+    requires { ⌜ (n ≤ length (now answer)) × (n ≤ length (now numbers)) ⌝ }
+    ensures { λ _. ⌜ now (answer .exit) ≡ wrote (now (answer .entry)) (writes (straight 0) (bytes (now (numbers .entry)) (straight 0) n)) ⌝ }
 {
-    let n = wire::least(answer.len(), numbers.len());
     let mut i = 0;
     while i < n {
         answer[i] = numbers[i];
         i += 1;
+    }
+}
+
+// Puts as many of the numbers as fit into the caller's answer. Where all fit the compiler knows how many, and makes stores of the loop.
+fn put_numbers(answer: &mut [u32], numbers: &[u32])
+    ensures { λ _. ⌜ now (answer .exit) ≡ answered (now (answer .entry)) (now (numbers .entry)) ⌝ }
+{
+    if numbers.len() <= answer.len() {
+        fill(answer, numbers, numbers.len());
+    } else {
+        fill(answer, numbers, answer.len());
     }
 }
 

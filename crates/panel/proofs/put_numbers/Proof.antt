@@ -1,69 +1,29 @@
-use Prim.Native.Nat.{_-_, _≤_}
-use mathlib.Core.Path.{_≡_, refl, _∙_}
+use mathlib.Core.Path.{sym, _∙_}
+use native.Mathlib.Nat.{min-eq-left, min-eq-right}
 use native.Mathlib.Omega.{arith}
-use lib.ListN.{length, length-set}
 use borrow.Author.Needs.{needs}
-use Rattle.wire.specs.Bytes.{bytes, writes, wrote}
-use Rattle.panel.proofs.Answers.{afterFirst, one-more, all-that-fit}
+use Rattle.panel.proofs.Answers.{all-that-fit}
 use Rattle.panel.proofs.put_numbers.Statement.{statement}
 use Rattle.panel.proofs.put_numbers.Tie as tie
 
-abbrev Inv-loop : tie.InvT-loop
-Inv-loop answer₀ numbers n i₀ answer i = (i ≤ n) × ((answer ≡ afterFirst answer₀ numbers i) × (length answer ≡ length answer₀))
+fill-requires : tie.Need-fill-requires
+fill-requires c κs = search needs
 
-abbrev μ-loop : tie.MeasureT-loop
-μ-loop answer₀ numbers n i₀ answer i = n - i
+fill-requires-2 : tie.Need-fill-requires-2
+fill-requires-2 c κs = search needs
 
-least-requires : tie.Need-least-requires Inv-loop μ-loop
-least-requires c κs = search needs
+same-length : tie.Need-same-length
+same-length c = search needs
 
-loop-holds : tie.Need-loop-holds Inv-loop μ-loop
-unfolding wrote writes bytes
-loop-holds c = (omega arith, (refl, refl))
+returns : tie.Need-returns
+returns c = c .before .before .fill .ensures ∙ all-that-fit _ _ _ (sym (min-eq-right (omega arith)))
 
-mul-answer : tie.Need-mul-answer Inv-loop μ-loop
-mul-answer c = omega arith
+same-length-2 : tie.Need-same-length-2
+same-length-2 c = search needs
 
-shared-slice-read-answer : tie.Need-shared-slice-read-answer Inv-loop μ-loop
-shared-slice-read-answer c = omega arith
-
-mul-answer-2 : tie.Need-mul-answer-2 Inv-loop μ-loop
-mul-answer-2 c = omega arith
-
-slice-write-answer : tie.Need-slice-write-answer Inv-loop μ-loop
-slice-write-answer c = omega arith
-
-add-i : tie.Need-add-i Inv-loop μ-loop
-add-i c = omega arith
-
-loop-less : tie.Need-loop-less Inv-loop μ-loop
-loop-less c = omega arith
-
-loop-again : tie.Need-loop-again Inv-loop μ-loop
-loop-again c = (omega arith, (rw (c .before .before .loop .inv .1 .0) (one-more _ _ _), simp length-set (omega arith)))
-
-same-length : tie.Need-same-length Inv-loop μ-loop
-same-length c = omega arith
-
-returns : tie.Need-returns Inv-loop μ-loop
-returns c =
-    let l = c .before in
-    l .loop .inv .1 .0 ∙ all-that-fit _ _ _ (omega (arith, l .before .least .ensures .0))
+returns-2 : tie.Need-returns-2
+returns-2 c = c .before .before .fill2 .ensures ∙ all-that-fit _ _ _ (sym (min-eq-left (omega arith)))
 
 pub put-numbers-spec : {M : Type 1} → statement M
 put-numbers-spec =
-    tie.close
-    (tie.spec
-    Inv-loop
-    μ-loop
-    least-requires
-    loop-holds
-    mul-answer
-    shared-slice-read-answer
-    mul-answer-2
-    slice-write-answer
-    add-i
-    loop-less
-    loop-again
-    same-length
-    returns)
+    tie.close (tie.spec fill-requires fill-requires-2 same-length returns same-length-2 returns-2)
