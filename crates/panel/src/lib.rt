@@ -1,8 +1,7 @@
 // The interface for C: layout, start, push and pull on plain numbers and slices. include/petrelknob.h declares it.
 ghost use mathlib.Core.Path.{_≡_};
-ghost use Prim.Native.Nat.{_≤_};
-ghost use lib.ListN.{length};
-ghost use Rattle.wire.specs.Bytes.{straight, bytes, writes, wrote, same};
+ghost use lib.ListN.{length, set};
+ghost use Rattle.wire.specs.Bytes.{wrote, same};
 ghost use Rattle.region.specs.Layout.{layout};
 ghost use Rattle.icmsg.specs.Ring.{startContent};
 ghost use Rattle.icmsg.specs.Rules.{answerOf, answerNumber};
@@ -19,26 +18,24 @@ enum Opened {
     Refused(Refusal),
 }
 
-// Puts the first n of the numbers into the caller's answer.
-fn fill(answer: &mut [u32], numbers: &[u32], n: usize)
-    requires { ⌜ (n ≤ length (now answer)) × (n ≤ length (now numbers)) ⌝ }
-    ensures { λ _. ⌜ now (answer .exit) ≡ wrote (now (answer .entry)) (writes (straight 0) (bytes (now (numbers .entry)) (straight 0) n)) ⌝ }
+// Puts v at position i of the caller's answer, where it has one.
+fn put_at(answer: &mut [u32], i: usize, v: u32)
+    ensures { λ _. ⌜ now (answer .exit) ≡ set (now (answer .entry)) i v ⌝ }
 {
-    let mut i = 0;
-    while i < n {
-        answer[i] = numbers[i];
-        i += 1;
+    if i < answer.len() {
+        answer[i] = v;
     }
 }
 
-// Puts as many of the numbers as fit into the caller's answer. Where all fit the compiler knows how many, and makes stores of the loop.
+// Puts as many of the numbers as fit into the caller's answer. How many there are is known to the compiler, and it makes a store of each
+// turn; how many fit is not, and a loop over those would be a call of memcpy.
 fn put_numbers(answer: &mut [u32], numbers: &[u32])
     ensures { λ _. ⌜ now (answer .exit) ≡ answered (now (answer .entry)) (now (numbers .entry)) ⌝ }
 {
-    if numbers.len() <= answer.len() {
-        fill(answer, numbers, numbers.len());
-    } else {
-        fill(answer, numbers, answer.len());
+    let mut i = 0;
+    while i < numbers.len() {
+        put_at(answer, i, numbers[i]);
+        i += 1;
     }
 }
 
