@@ -12,7 +12,8 @@
 
 /* 256 blocks each way: the ring then has 8,156 data bytes, enough for the longest content. */
 enum { BEGIN = 0x20070000, LENGTH = 32768, END = BEGIN + LENGTH, BLOCKS = 256, ALIGNMENT = 32, LONGEST = 4000 };
-enum { LOOKS = 200000, STARTS = 200000, ROUNDS = 41 };
+/* Rounds are short, so that some of them have the processor to themselves. */
+enum { CALLS = 20000, ROUNDS = 401 };
 
 /* The length, the own index and the bytes dropped. */
 enum { NUMBERS = 3 };
@@ -55,14 +56,14 @@ static double look_of(pull_call *pull)
     uint32_t read[NUMBERS] = {0};
     memset(region, 0, sizeof region);
     double began = seconds();
-    for (uint32_t i = 0; i < LOOKS; i++) {
+    for (uint32_t i = 0; i < CALLS; i++) {
         if (pull(BEGIN, END, BLOCKS, BLOCKS, ALIGNMENT, read[1], region, LENGTH, buffer, LONGEST, read, NUMBERS) !=
             PETRELKNOB_EMPTY) {
             fprintf(stderr, "a pull of an empty ring found something\n");
             exit(1);
         }
     }
-    return 1e9 * (seconds() - began) / LOOKS;
+    return 1e9 * (seconds() - began) / CALLS;
 }
 
 /* Nanoseconds for a start. */
@@ -71,13 +72,13 @@ static double start_of(start_call *start)
     uint32_t written[NUMBERS] = {0};
     memset(region, 0, sizeof region);
     double began = seconds();
-    for (uint32_t i = 0; i < STARTS; i++) {
+    for (uint32_t i = 0; i < CALLS; i++) {
         if (start(BEGIN, END, BLOCKS, BLOCKS, ALIGNMENT, region, LENGTH, written, NUMBERS) != 0 || written[0] != 13) {
             fprintf(stderr, "a start was refused\n");
             exit(1);
         }
     }
-    return 1e9 * (seconds() - began) / STARTS;
+    return 1e9 * (seconds() - began) / CALLS;
 }
 
 static void print(const char *what, double plain, double proved)
@@ -87,7 +88,7 @@ static void print(const char *what, double plain, double proved)
 
 static void compare_pairs(size_t length)
 {
-    uint32_t pairs = length < 100 ? 200000 : 50000;
+    uint32_t pairs = length < 100 ? CALLS : CALLS / 4;
     double plain = 1e9, proved = 1e9;
     char what[32];
     for (int r = 0; r < ROUNDS; r++) {
