@@ -1,6 +1,5 @@
 // The interface for C: layout, start, push and pull on plain numbers and slices. include/petrelknob.h declares it.
 ghost use mathlib.Core.Path.{_≡_};
-ghost use Prim.Native.Nat.{_≤_};
 ghost use lib.ListN.{length, set};
 ghost use Rattle.wire.specs.Bytes.{wrote, same};
 ghost use Rattle.region.specs.Layout.{layout};
@@ -28,38 +27,15 @@ fn put_at(answer: &mut [u32], i: usize, v: u32)
     }
 }
 
-// Puts as many of the numbers as fit, each by a test of its own.
-fn put_some(answer: &mut [u32], numbers: &[u32])
-    ensures { λ _. ⌜ now (answer .exit) ≡ answered (now (answer .entry)) (now (numbers .entry)) ⌝ }
-{
-    let mut at = 0;
-    while at < numbers.len() {
-        put_at(answer, at, numbers[at]);
-        at += 1;
-    }
-}
-
-// Puts all of the numbers.
-fn put_all(answer: &mut [u32], numbers: &[u32])
-    requires { ⌜ length (now numbers) ≤ length (now answer) ⌝ }
+// Puts as many of the numbers as fit into the caller's answer. How many there are is known to the compiler, and it makes a store of each
+// turn; how many fit is not, and a loop over those would be a call of memcpy.
+fn put_numbers(answer: &mut [u32], numbers: &[u32])
     ensures { λ _. ⌜ now (answer .exit) ≡ answered (now (answer .entry)) (now (numbers .entry)) ⌝ }
 {
     let mut i = 0;
     while i < numbers.len() {
-        answer[i] = numbers[i];
+        put_at(answer, i, numbers[i]);
         i += 1;
-    }
-}
-
-// Puts as many of the numbers as fit into the caller's answer. How many there are is known to the compiler, and it makes stores of both
-// loops; how many fit is not, and a loop over those would be a call of memcpy.
-fn put_numbers(answer: &mut [u32], numbers: &[u32])
-    ensures { λ _. ⌜ now (answer .exit) ≡ answered (now (answer .entry)) (now (numbers .entry)) ⌝ }
-{
-    if numbers.len() <= answer.len() {
-        put_all(answer, numbers);
-    } else {
-        put_some(answer, numbers);
     }
 }
 

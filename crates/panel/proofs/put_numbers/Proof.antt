@@ -5,14 +5,14 @@ use native.Mathlib.Omega.{arith}
 use lib.ListN.{length}
 use borrow.Author.Needs.{needs}
 use Rattle.panel.proofs.Answers.{afterFirst, none-yet, one-more-that-fits, all-that-fit}
-use Rattle.panel.proofs.put_some.Statement.{statement}
-use Rattle.panel.proofs.put_some.Tie as tie
+use Rattle.panel.proofs.put_numbers.Statement.{statement}
+use Rattle.panel.proofs.put_numbers.Tie as tie
 
 abbrev Inv-loop : tie.InvT-loop
-Inv-loop answer₀ numbers at₀ answer at = (at ≤ length numbers) × ((answer ≡ afterFirst answer₀ numbers (min at (length answer₀))) × (length answer ≡ length answer₀))
+Inv-loop answer₀ numbers i₀ answer i = (i ≤ length numbers) × ((answer ≡ afterFirst answer₀ numbers (min i (length answer₀))) × (length answer ≡ length answer₀))
 
 abbrev μ-loop : tie.MeasureT-loop
-μ-loop answer₀ numbers at₀ answer at = length numbers - at
+μ-loop answer₀ numbers i₀ answer i = length numbers - i
 
 loop-holds : tie.Need-loop-holds Inv-loop μ-loop
 loop-holds c = (omega arith, (none-yet _ _, refl))
@@ -26,8 +26,8 @@ shared-slice-read-put-at c = omega arith
 put-at-requires : tie.Need-put-at-requires Inv-loop μ-loop
 put-at-requires c κs = search needs
 
-add-at : tie.Need-add-at Inv-loop μ-loop
-add-at c = omega arith
+add-i : tie.Need-add-i Inv-loop μ-loop
+add-i c = omega arith
 
 loop-less : tie.Need-loop-less Inv-loop μ-loop
 loop-less c = omega arith
@@ -44,11 +44,11 @@ same-length c = omega arith
 returns : tie.Need-returns Inv-loop μ-loop
 returns c =
     let l = c .before in
-    let all : l .loop .at ≡ length (l .before .before .before .args .numbers .now) = omega arith in
+    let all : l .loop .i ≡ length (l .before .before .before .args .numbers .now) = omega arith in
     l .loop .inv .1 .0 ∙ all-that-fit _ _ _ (rw all (min-comm _ _))
 
-pub put-some-spec : {M : Type 1} → statement M
-put-some-spec =
+pub put-numbers-spec : {M : Type 1} → statement M
+put-numbers-spec =
     tie.close
     (tie.spec
     Inv-loop
@@ -57,7 +57,7 @@ put-some-spec =
     mul-put-at
     shared-slice-read-put-at
     put-at-requires
-    add-at
+    add-i
     loop-less
     loop-again
     same-length
