@@ -60,16 +60,16 @@ static uint32_t give(uint32_t number, uint32_t length, uint32_t own_index, uint3
 static inline uint32_t put(const struct ring *ring, uint32_t own_index, const uint8_t *content, uint32_t k)
 {
     uint32_t whole = packet_length(k);
-    uint8_t *head = ring->data + own_index;
-    head[0] = (uint8_t)(k >> 8);
-    head[1] = (uint8_t)k;
-    head[2] = 0;
-    head[3] = 0;
     uint32_t at = moved(ring, own_index, 4);
-    uint32_t straight = k < ring->data_length - at ? k : ring->data_length - at;
-    memcpy(ring->data + at, content, straight);
-    memcpy(ring->data, content + straight, k - straight);
-    memset(ring->data + moved(ring, at, k), 0, whole - 4 - k);
+    uint32_t straight = ring->data_length - at;
+    store(ring->data + moved(ring, own_index, whole - 4), 0);   /* the padding is what the content leaves of it */
+    store(ring->data + own_index, (k >> 8) | (k & 0xFF) << 8); /* the length, big-endian, and two zeros */
+    if (k <= straight) {
+        memcpy(ring->data + at, content, k);
+    } else {
+        memcpy(ring->data + at, content, straight);
+        memcpy(ring->data, content + straight, k - straight);
+    }
     own_index = moved(ring, own_index, whole);
     store(ring->write_index, own_index);
     return own_index;
@@ -133,9 +133,13 @@ uint32_t plain_pull(uint32_t begin, uint32_t end, uint32_t local_blocks, uint32_
 
     uint32_t at = moved(&ring, own_index, 4);
     uint32_t n = k < buffer_length ? k : (uint32_t)buffer_length;
-    uint32_t straight = n < ring.data_length - at ? n : ring.data_length - at;
-    memcpy(buffer, ring.data + at, straight);
-    memcpy(buffer + straight, ring.data, n - straight);
+    uint32_t straight = ring.data_length - at;
+    if (n <= straight) {
+        memcpy(buffer, ring.data + at, n);
+    } else {
+        memcpy(buffer, ring.data + at, straight);
+        memcpy(buffer + straight, ring.data, n - straight);
+    }
     own_index = moved(&ring, own_index, whole);
     store(ring.read_index, own_index);
     return give(0, k, own_index, 0, answer, answer_length);
