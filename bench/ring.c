@@ -28,113 +28,90 @@ static uint8_t region[LENGTH];
 static uint8_t content[LONGEST];
 static uint8_t buffer[LONGEST];
 
-/* Nanoseconds for a pair, over `pairs` pairs on a cleared region. */
-static double round_of(push_call *push, pull_call *pull, size_t length, uint32_t pairs)
+/* The calls of one of the two rings. */
+struct calls {
+    start_call *start;
+    push_call *push;
+    pull_call *pull;
+};
+
+static const struct calls plain = {plain_start, plain_push, plain_pull};
+static const struct calls proved = {petrelknob_start, petrelknob_push, petrelknob_pull};
+
+static void expect(int met, const char *what)
+{
+    if (met)
+        return;
+    fprintf(stderr, "%s\n", what);
+    exit(1);
+}
+
+/* Pushes the content and pulls it, as often as said. */
+static void pairs(const struct calls *ring, size_t length, uint32_t times)
 {
     uint32_t written[NUMBERS] = {0}, read[NUMBERS] = {0};
-    memset(region, 0, sizeof region);
-    double began = seconds();
-    for (uint32_t i = 0; i < pairs; i++) {
-        if (push(BEGIN, END, BLOCKS, BLOCKS, ALIGNMENT, written[1], region, LENGTH, content, length, written, NUMBERS) != 0 ||
-            pull(BEGIN, END, BLOCKS, BLOCKS, ALIGNMENT, read[1], region, LENGTH, buffer, LONGEST, read, NUMBERS) != 0 ||
-            read[0] != length) {
-            fprintf(stderr, "a push or a pull of %zu bytes was refused\n", length);
-            exit(1);
-        }
-    }
-    double took = seconds() - began;
-    if (memcmp(buffer, content, length) != 0) {
-        fprintf(stderr, "a pull gave other bytes than were pushed\n");
-        exit(1);
-    }
-    return 1e9 * took / pairs;
+    for (uint32_t i = 0; i < times; i++)
+        expect(ring->push(BEGIN, END, BLOCKS, BLOCKS, ALIGNMENT, written[1], region, LENGTH, content, length, written, NUMBERS) == 0 &&
+                   ring->pull(BEGIN, END, BLOCKS, BLOCKS, ALIGNMENT, read[1], region, LENGTH, buffer, LONGEST, read, NUMBERS) == 0 &&
+                   read[0] == length,
+               "a push or a pull was refused");
+    expect(memcmp(buffer, content, length) == 0, "a pull gave other bytes");
 }
 
-/* Nanoseconds for a pull of an empty ring: the checks, and one look at the partner's index. */
-static double look_of(pull_call *pull)
+/* Pulls of an empty ring: the checks, and one look at the partner's index. */
+static void looks(const struct calls *ring, size_t length, uint32_t times)
 {
     uint32_t read[NUMBERS] = {0};
-    memset(region, 0, sizeof region);
-    double began = seconds();
-    for (uint32_t i = 0; i < CALLS; i++) {
-        if (pull(BEGIN, END, BLOCKS, BLOCKS, ALIGNMENT, read[1], region, LENGTH, buffer, LONGEST, read, NUMBERS) !=
-            PETRELKNOB_EMPTY) {
-            fprintf(stderr, "a pull of an empty ring found something\n");
-            exit(1);
-        }
-    }
-    return 1e9 * (seconds() - began) / CALLS;
+    (void)length;
+    for (uint32_t i = 0; i < times; i++)
+        expect(ring->pull(BEGIN, END, BLOCKS, BLOCKS, ALIGNMENT, read[1], region, LENGTH, buffer, LONGEST, read, NUMBERS) ==
+                   PETRELKNOB_EMPTY,
+               "a pull of an empty ring found something");
 }
 
-/* Nanoseconds for a start. */
-static double start_of(start_call *start)
+static void starts(const struct calls *ring, size_t length, uint32_t times)
 {
     uint32_t written[NUMBERS] = {0};
+    for (uint32_t i = 0; i < times; i++)
+        expect(ring->start(BEGIN, END, BLOCKS, BLOCKS, ALIGNMENT, region, LENGTH, written, NUMBERS) == 0 && written[0] == length,
+               "a start was refused");
+}
+
+typedef void work(const struct calls *, size_t, uint32_t);
+
+/* Nanoseconds for one of `times`, on a cleared region. */
+static double round_of(work *work, const struct calls *ring, size_t length, uint32_t times)
+{
     memset(region, 0, sizeof region);
     double began = seconds();
-    for (uint32_t i = 0; i < CALLS; i++) {
-        if (start(BEGIN, END, BLOCKS, BLOCKS, ALIGNMENT, region, LENGTH, written, NUMBERS) != 0 || written[0] != 13) {
-            fprintf(stderr, "a start was refused\n");
-            exit(1);
-        }
-    }
-    return 1e9 * (seconds() - began) / CALLS;
+    work(ring, length, times);
+    return 1e9 * (seconds() - began) / times;
 }
 
-static void print(const char *what, double plain, double proved)
+static void compare(const char *what, work *work, size_t length)
 {
-    printf("%-28s %9.1f %8.1f %7.2f\n", what, plain, proved, proved / plain);
-}
-
-static void compare_pairs(size_t length)
-{
-    uint32_t pairs = length < 100 ? CALLS : CALLS / 4;
-    double plain = 1e9, proved = 1e9;
-    char what[32];
+    uint32_t times = length < 100 ? CALLS : CALLS / 4;
+    double least_plain = 1e9, least_proved = 1e9;
     for (int r = 0; r < ROUNDS; r++) {
-        double a = round_of(plain_push, plain_pull, length, pairs);
-        double b = round_of(petrelknob_push, petrelknob_pull, length, pairs);
-        plain = a < plain ? a : plain;
-        proved = b < proved ? b : proved;
+        double a = round_of(work, &plain, length, times);
+        double b = round_of(work, &proved, length, times);
+        least_plain = a < least_plain ? a : least_plain;
+        least_proved = b < least_proved ? b : least_proved;
     }
-    snprintf(what, sizeof what, "push and pull, %4zu bytes", length);
-    print(what, plain, proved);
-}
-
-static void compare_looks(void)
-{
-    double plain = 1e9, proved = 1e9;
-    for (int r = 0; r < ROUNDS; r++) {
-        double a = look_of(plain_pull);
-        double b = look_of(petrelknob_pull);
-        plain = a < plain ? a : plain;
-        proved = b < proved ? b : proved;
-    }
-    print("pull of an empty ring", plain, proved);
-}
-
-static void compare_starts(void)
-{
-    double plain = 1e9, proved = 1e9;
-    for (int r = 0; r < ROUNDS; r++) {
-        double a = start_of(plain_start);
-        double b = start_of(petrelknob_start);
-        plain = a < plain ? a : plain;
-        proved = b < proved ? b : proved;
-    }
-    print("start", plain, proved);
+    printf("%-28s %9.1f %8.1f %7.2f\n", what, least_plain, least_proved, least_proved / least_plain);
 }
 
 int main(void)
 {
-    static const size_t lengths[] = {3, 64, 1000, 4000};
     for (size_t i = 0; i < sizeof content; i++)
         content[i] = (uint8_t)(i * 7 + 1);
 
     printf("nanoseconds                    plain C   proved   ratio\n");
-    for (size_t i = 0; i < sizeof lengths / sizeof lengths[0]; i++)
-        compare_pairs(lengths[i]);
-    compare_looks();
-    compare_starts();
+    compare("push and pull,    3 bytes", pairs, 3);
+    compare("push and pull,   64 bytes", pairs, 64);
+    compare("push and pull, 1000 bytes", pairs, 1000);
+    compare("push and pull, 4000 bytes", pairs, 4000);
+    compare("pull of an empty ring", looks, 0);
+    compare("start", starts, 13);
     return 0;
 }
