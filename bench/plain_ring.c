@@ -45,13 +45,49 @@ static uint32_t packet_length(uint32_t content)
     return 4 + ((content + 3) & ~(uint32_t)3);
 }
 
-static uint32_t give(uint32_t number, uint32_t length, uint32_t own_index, uint32_t *answer, size_t answer_length)
+static uint32_t give(uint32_t number, uint32_t length, uint32_t own_index, uint32_t dropped, uint32_t *answer, size_t answer_length)
 {
     if (answer_length > 0)
         answer[0] = length;
     if (answer_length > 1)
         answer[1] = own_index;
+    if (answer_length > 2)
+        answer[2] = dropped;
     return number;
+}
+
+/* Puts the packet, writes the index behind it out, and gives that index. */
+static inline uint32_t put(const struct ring *ring, uint32_t own_index, const uint8_t *content, uint32_t k)
+{
+    uint32_t whole = packet_length(k);
+    uint32_t at = moved(ring, own_index, 4);
+    uint32_t straight = ring->data_length - at;
+    store(ring->data + moved(ring, own_index, whole - 4), 0);   /* the padding is what the content leaves of it */
+    store(ring->data + own_index, (k >> 8) | (k & 0xFF) << 8); /* the length, big-endian, and two zeros */
+    if (k <= straight) {
+        memcpy(ring->data + at, content, k);
+    } else {
+        memcpy(ring->data + at, content, straight);
+        memcpy(ring->data, content + straight, k - straight);
+    }
+    own_index = moved(ring, own_index, whole);
+    store(ring->write_index, own_index);
+    return own_index;
+}
+
+uint32_t plain_start(uint32_t begin, uint32_t end, uint32_t local_blocks, uint32_t remote_blocks, uint32_t alignment, uint8_t *region,
+                     size_t region_length, uint32_t *answer, size_t answer_length)
+{
+    static const uint8_t content[13] = {0x45, 0x6d, 0x31, 0x6c, 0x31, 0x4b, 0x30, 0x72, 0x6e, 0x33, 0x6c, 0x69, 0x34};
+    struct ring ring;
+    uint32_t number = open_ring(begin, end, local_blocks, remote_blocks, alignment, 0, region, region_length, &ring);
+    if (number)
+        return give(number, 0, 0, 0, answer, answer_length);
+    if (packet_length(sizeof content) > ring.data_length - 1)
+        return give(10, 0, 0, 0, answer, answer_length);
+    store(ring.read_index, 0);
+    store(ring.write_index, 0);
+    return give(0, sizeof content, put(&ring, 0, content, sizeof content), 0, answer, answer_length);
 }
 
 uint32_t plain_push(uint32_t begin, uint32_t end, uint32_t local_blocks, uint32_t remote_blocks, uint32_t alignment, uint32_t own_index,
@@ -61,30 +97,16 @@ uint32_t plain_push(uint32_t begin, uint32_t end, uint32_t local_blocks, uint32_
     struct ring ring;
     uint32_t number = open_ring(begin, end, local_blocks, remote_blocks, alignment, own_index, region, region_length, &ring);
     if (number)
-        return give(number, 0, own_index, answer, answer_length);
+        return give(number, 0, own_index, 0, answer, answer_length);
     if (content_length > 65535)
-        return give(11, 0, own_index, answer, answer_length);
+        return give(11, 0, own_index, 0, answer, answer_length);
     uint32_t read = load(ring.read_index);
     if (read >= ring.data_length || read % 4)
-        return give(7, 0, own_index, answer, answer_length);
+        return give(7, 0, own_index, 0, answer, answer_length);
     uint32_t k = (uint32_t)content_length;
-    uint32_t whole = packet_length(k);
-    if (whole + used(&ring, read, own_index) > ring.data_length - 1)
-        return give(10, 0, own_index, answer, answer_length);
-
-    uint8_t *head = ring.data + own_index;
-    head[0] = (uint8_t)(k >> 8);
-    head[1] = (uint8_t)k;
-    head[2] = 0;
-    head[3] = 0;
-    uint32_t at = moved(&ring, own_index, 4);
-    uint32_t straight = k < ring.data_length - at ? k : ring.data_length - at;
-    memcpy(ring.data + at, content, straight);
-    memcpy(ring.data, content + straight, k - straight);
-    memset(ring.data + moved(&ring, at, k), 0, whole - 4 - k);
-    own_index = moved(&ring, own_index, whole);
-    store(ring.write_index, own_index);
-    return give(0, k, own_index, answer, answer_length);
+    if (packet_length(k) + used(&ring, read, own_index) > ring.data_length - 1)
+        return give(10, 0, own_index, 0, answer, answer_length);
+    return give(0, k, put(&ring, own_index, content, k), 0, answer, answer_length);
 }
 
 uint32_t plain_pull(uint32_t begin, uint32_t end, uint32_t local_blocks, uint32_t remote_blocks, uint32_t alignment, uint32_t own_index,
@@ -94,24 +116,31 @@ uint32_t plain_pull(uint32_t begin, uint32_t end, uint32_t local_blocks, uint32_
     struct ring ring;
     uint32_t number = open_ring(begin, end, local_blocks, remote_blocks, alignment, own_index, region, region_length, &ring);
     if (number)
-        return give(number, 0, own_index, answer, answer_length);
+        return give(number, 0, own_index, 0, answer, answer_length);
     uint32_t write = load(ring.write_index);
     if (write >= ring.data_length || write % 4)
-        return give(7, 0, own_index, answer, answer_length);
+        return give(7, 0, own_index, 0, answer, answer_length);
     if (write == own_index)
-        return give(8, 0, own_index, answer, answer_length);
+        return give(8, 0, own_index, 0, answer, answer_length);
     const uint8_t *head = ring.data + own_index;
     uint32_t k = (uint32_t)head[0] << 8 | head[1];
     uint32_t whole = packet_length(k);
-    if (whole > used(&ring, own_index, write))
-        return give(9, 0, own_index, answer, answer_length);
+    uint32_t unread = used(&ring, own_index, write);
+    if (whole > unread) {
+        store(ring.read_index, write);
+        return give(9, 0, write, unread, answer, answer_length);
+    }
 
     uint32_t at = moved(&ring, own_index, 4);
     uint32_t n = k < buffer_length ? k : (uint32_t)buffer_length;
-    uint32_t straight = n < ring.data_length - at ? n : ring.data_length - at;
-    memcpy(buffer, ring.data + at, straight);
-    memcpy(buffer + straight, ring.data, n - straight);
+    uint32_t straight = ring.data_length - at;
+    if (n <= straight) {
+        memcpy(buffer, ring.data + at, n);
+    } else {
+        memcpy(buffer, ring.data + at, straight);
+        memcpy(buffer + straight, ring.data, n - straight);
+    }
     own_index = moved(&ring, own_index, whole);
     store(ring.read_index, own_index);
-    return give(0, k, own_index, answer, answer_length);
+    return give(0, k, own_index, 0, answer, answer_length);
 }

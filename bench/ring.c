@@ -1,6 +1,6 @@
-/* The proved ring and the plain C ring side by side: nanoseconds for a push and a pull together, by the content's length, and for a
- * pull that finds nothing. Both have the same interface, layout and checks. Each round runs one after the other, and the least of all
- * rounds counts. */
+/* The proved ring and the plain C ring side by side: nanoseconds for a push and a pull together, by the content's length, for a
+ * pull that finds nothing, and for a start. Both have the same interface, layout and checks. Each round runs one after the other, and
+ * the least of all rounds counts. */
 #include "seconds.h"
 
 #include "plain_ring.h"
@@ -12,8 +12,13 @@
 
 /* 256 blocks each way: the ring then has 8,156 data bytes, enough for the longest content. */
 enum { BEGIN = 0x20070000, LENGTH = 32768, END = BEGIN + LENGTH, BLOCKS = 256, ALIGNMENT = 32, LONGEST = 4000 };
-enum { LOOKS = 200000, ROUNDS = 41 };
+/* Rounds are short, so that some of them have the processor to themselves. */
+enum { CALLS = 20000, ROUNDS = 401 };
 
+/* The length, the own index and the bytes dropped. */
+enum { NUMBERS = 3 };
+
+typedef uint32_t start_call(uint32_t, uint32_t, uint32_t, uint32_t, uint32_t, uint8_t *, size_t, uint32_t *, size_t);
 typedef uint32_t push_call(uint32_t, uint32_t, uint32_t, uint32_t, uint32_t, uint32_t, uint8_t *, size_t,
                            const uint8_t *, size_t, uint32_t *, size_t);
 typedef uint32_t pull_call(uint32_t, uint32_t, uint32_t, uint32_t, uint32_t, uint32_t, uint8_t *, size_t, uint8_t *,
@@ -23,84 +28,90 @@ static uint8_t region[LENGTH];
 static uint8_t content[LONGEST];
 static uint8_t buffer[LONGEST];
 
-/* Nanoseconds for a pair, over `pairs` pairs on a cleared region. */
-static double round_of(push_call *push, pull_call *pull, size_t length, uint32_t pairs)
+/* The calls of one of the two rings. */
+struct calls {
+    start_call *start;
+    push_call *push;
+    pull_call *pull;
+};
+
+static const struct calls plain = {plain_start, plain_push, plain_pull};
+static const struct calls proved = {petrelknob_start, petrelknob_push, petrelknob_pull};
+
+static void expect(int met, const char *what)
 {
-    uint32_t written[2] = {0, 0}, read[2] = {0, 0};
+    if (met)
+        return;
+    fprintf(stderr, "%s\n", what);
+    exit(1);
+}
+
+/* Pushes the content and pulls it, as often as said. */
+static void pairs(const struct calls *ring, size_t length, uint32_t times)
+{
+    uint32_t written[NUMBERS] = {0}, read[NUMBERS] = {0};
+    for (uint32_t i = 0; i < times; i++)
+        expect(ring->push(BEGIN, END, BLOCKS, BLOCKS, ALIGNMENT, written[1], region, LENGTH, content, length, written, NUMBERS) == 0 &&
+                   ring->pull(BEGIN, END, BLOCKS, BLOCKS, ALIGNMENT, read[1], region, LENGTH, buffer, LONGEST, read, NUMBERS) == 0 &&
+                   read[0] == length,
+               "a push or a pull was refused");
+    expect(memcmp(buffer, content, length) == 0, "a pull gave other bytes");
+}
+
+/* Pulls of an empty ring: the checks, and one look at the partner's index. */
+static void looks(const struct calls *ring, size_t length, uint32_t times)
+{
+    uint32_t read[NUMBERS] = {0};
+    (void)length;
+    for (uint32_t i = 0; i < times; i++)
+        expect(ring->pull(BEGIN, END, BLOCKS, BLOCKS, ALIGNMENT, read[1], region, LENGTH, buffer, LONGEST, read, NUMBERS) ==
+                   PETRELKNOB_EMPTY,
+               "a pull of an empty ring found something");
+}
+
+static void starts(const struct calls *ring, size_t length, uint32_t times)
+{
+    uint32_t written[NUMBERS] = {0};
+    for (uint32_t i = 0; i < times; i++)
+        expect(ring->start(BEGIN, END, BLOCKS, BLOCKS, ALIGNMENT, region, LENGTH, written, NUMBERS) == 0 && written[0] == length,
+               "a start was refused");
+}
+
+typedef void work(const struct calls *, size_t, uint32_t);
+
+/* Nanoseconds for one of `times`, on a cleared region. */
+static double round_of(work *work, const struct calls *ring, size_t length, uint32_t times)
+{
     memset(region, 0, sizeof region);
     double began = seconds();
-    for (uint32_t i = 0; i < pairs; i++) {
-        if (push(BEGIN, END, BLOCKS, BLOCKS, ALIGNMENT, written[1], region, LENGTH, content, length, written, 2) != 0 ||
-            pull(BEGIN, END, BLOCKS, BLOCKS, ALIGNMENT, read[1], region, LENGTH, buffer, LONGEST, read, 2) != 0 ||
-            read[0] != length) {
-            fprintf(stderr, "a push or a pull of %zu bytes was refused\n", length);
-            exit(1);
-        }
-    }
-    double took = seconds() - began;
-    if (memcmp(buffer, content, length) != 0) {
-        fprintf(stderr, "a pull gave other bytes than were pushed\n");
-        exit(1);
-    }
-    return 1e9 * took / pairs;
+    work(ring, length, times);
+    return 1e9 * (seconds() - began) / times;
 }
 
-/* Nanoseconds for a pull of an empty ring: the checks, and one look at the partner's index. */
-static double look_of(pull_call *pull)
+static void compare(const char *what, work *work, size_t length)
 {
-    uint32_t read[2] = {0, 0};
-    memset(region, 0, sizeof region);
-    double began = seconds();
-    for (uint32_t i = 0; i < LOOKS; i++) {
-        if (pull(BEGIN, END, BLOCKS, BLOCKS, ALIGNMENT, read[1], region, LENGTH, buffer, LONGEST, read, 2) != PETRELKNOB_EMPTY) {
-            fprintf(stderr, "a pull of an empty ring found something\n");
-            exit(1);
-        }
-    }
-    return 1e9 * (seconds() - began) / LOOKS;
-}
-
-static void print(const char *what, double plain, double proved)
-{
-    printf("%-28s %9.1f %8.1f %7.2f\n", what, plain, proved, proved / plain);
-}
-
-static void compare_pairs(size_t length)
-{
-    uint32_t pairs = length < 100 ? 200000 : 50000;
-    double plain = 1e9, proved = 1e9;
-    char what[32];
+    uint32_t times = length < 100 ? CALLS : CALLS / 4;
+    double least_plain = 1e9, least_proved = 1e9;
     for (int r = 0; r < ROUNDS; r++) {
-        double a = round_of(plain_push, plain_pull, length, pairs);
-        double b = round_of(petrelknob_push, petrelknob_pull, length, pairs);
-        plain = a < plain ? a : plain;
-        proved = b < proved ? b : proved;
+        double a = round_of(work, &plain, length, times);
+        double b = round_of(work, &proved, length, times);
+        least_plain = a < least_plain ? a : least_plain;
+        least_proved = b < least_proved ? b : least_proved;
     }
-    snprintf(what, sizeof what, "push and pull, %4zu bytes", length);
-    print(what, plain, proved);
-}
-
-static void compare_looks(void)
-{
-    double plain = 1e9, proved = 1e9;
-    for (int r = 0; r < ROUNDS; r++) {
-        double a = look_of(plain_pull);
-        double b = look_of(petrelknob_pull);
-        plain = a < plain ? a : plain;
-        proved = b < proved ? b : proved;
-    }
-    print("pull of an empty ring", plain, proved);
+    printf("%-28s %9.1f %8.1f %7.2f\n", what, least_plain, least_proved, least_proved / least_plain);
 }
 
 int main(void)
 {
-    static const size_t lengths[] = {3, 64, 1000, 4000};
     for (size_t i = 0; i < sizeof content; i++)
         content[i] = (uint8_t)(i * 7 + 1);
 
     printf("nanoseconds                    plain C   proved   ratio\n");
-    for (size_t i = 0; i < sizeof lengths / sizeof lengths[0]; i++)
-        compare_pairs(lengths[i]);
-    compare_looks();
+    compare("push and pull,    3 bytes", pairs, 3);
+    compare("push and pull,   64 bytes", pairs, 64);
+    compare("push and pull, 1000 bytes", pairs, 1000);
+    compare("push and pull, 4000 bytes", pairs, 4000);
+    compare("pull of an empty ring", looks, 0);
+    compare("start", starts, 13);
     return 0;
 }

@@ -128,7 +128,8 @@ static uint32_t told(const char *what, uint32_t number)
     return number;
 }
 
-/* The longest content of an empty ring, and a partner that breaks the rule: refused by number, and nothing changes. */
+/* The longest content of an empty ring, and a partner that breaks the rules: refused by number. A broken packet is dropped, and what is
+ * pushed next is pulled again. */
 static int limits(uint8_t *memory)
 {
     static const uint8_t zeros[REGION_LENGTH];
@@ -144,10 +145,18 @@ static int limits(uint8_t *memory)
     printf("the ring is empty, and takes a content of %u bytes\n", (unsigned)largest);
     int one_more = told("one byte more", petrelknob_direction_push(&says, zeros, largest + 1)) == PETRELKNOB_FULL;
     int as_many = told("as many", petrelknob_direction_push(&says, zeros, largest)) == PETRELKNOB_ACCEPTED;
+    memset(memory + ALIGNMENT + 4 + hears.own_index, 0xFF, 2);
+    int broken = told("its length 0xFFFF", petrelknob_direction_pull(&hears, content, sizeof content, &length)) ==
+                 PETRELKNOB_BROKEN_PACKET;
+    printf("dropped %u bytes, read index %u\n", (unsigned)hears.dropped, (unsigned)hears.own_index);
+    expect_accepted("limits", "push", petrelknob_direction_push(&says, "flow?", 5));
+    int goes_on = told("the next packet", petrelknob_direction_pull(&hears, content, sizeof content, &length)) ==
+                      PETRELKNOB_ACCEPTED &&
+                  length == 5;
     memset(memory + ALIGNMENT, 0xFF, 4);
-    int broken = told("a write index of 0xFFFFFFFF", petrelknob_direction_pull(&hears, content, sizeof content, &length)) ==
-                 PETRELKNOB_BAD_INDEX;
-    return one_more && as_many && broken ? 0 : 1;
+    int bad_index = told("a write index of 0xFFFFFFFF", petrelknob_direction_pull(&hears, content, sizeof content, &length)) ==
+                    PETRELKNOB_BAD_INDEX;
+    return one_more && as_many && broken && goes_on && bad_index ? 0 : 1;
 }
 
 static uint8_t *share(void)

@@ -67,7 +67,7 @@ static inline const char *petrelknob_meaning(uint32_t number)
     case PETRELKNOB_WRONG_REGION: return "the lent bytes are not the whole region, the own index is out of rule, or the end is closed";
     case PETRELKNOB_BAD_INDEX: return "the partner's index is not below the data length, or no multiple of 4";
     case PETRELKNOB_EMPTY: return "nothing on the ring is unread";
-    case PETRELKNOB_BROKEN_PACKET: return "the next packet is longer than the unread bytes";
+    case PETRELKNOB_BROKEN_PACKET: return "the next packet is longer than the unread bytes, and all of them are dropped";
     case PETRELKNOB_FULL: return "the packet does not fit beside the unread bytes";
     case PETRELKNOB_TOO_LONG: return "the content has over 65,535 bytes";
     case PETRELKNOB_TOO_SHORT: return "the control message is too short";
@@ -131,8 +131,9 @@ static inline uint32_t petrelknob_largest_content(uint32_t data_length)
 /* Where each value of a start, a push or a pull stands in `answer`. */
 enum petrelknob_ring_value {
     PETRELKNOB_LENGTH = 0,    /* start: 13; push: the content's length; pull: the packet's whole length; 0 on a refusal */
-    PETRELKNOB_OWN_INDEX = 1, /* the own index after the call, to be handed in at the next; on a refusal as it was, of start 0 */
-    PETRELKNOB_RING_VALUES = 2
+    PETRELKNOB_OWN_INDEX = 1, /* the own index after the call, to be handed in at the next; on a refusal but 9 as it was, of start 0 */
+    PETRELKNOB_DROPPED = 2,   /* pull, on 9: how many unread bytes were dropped; else 0 */
+    PETRELKNOB_RING_VALUES = 3
 };
 
 /* Starts the ring of a region that this side transmits in: writes both indexes as zero and puts a packet with the start content
@@ -141,7 +142,7 @@ enum petrelknob_ring_value {
  *
  * begin .. alignment   the region's numbers, as for its layout
  * region               the whole region, its first byte at address begin
- * answer               gets the two values above: the own index is the write index for the first push. A shorter answer gets the
+ * answer               gets the three values above: the own index is the write index for the first push. A shorter answer gets the
  *                      first of them; further elements stay
  *
  * Returns 0, or the number of the first check that fails, in the order 1, 2, 3, 4, 6; then no byte of region is changed.
@@ -176,7 +177,11 @@ uint32_t petrelknob_push(uint32_t begin, uint32_t end, uint32_t local_blocks, ui
  *                      even where it did not fit: answer[PETRELKNOB_LENGTH] says how long it was
  *
  * All else is as for push. Returns 0, or the number of the first check that fails, in the order 1, 2, 3, 4, 6, 7, 8, 9; then
- * no byte of region and buffer is changed. The two slices, and answer, must not overlap.
+ * no byte of region and buffer is changed, but for 9. The two slices, and answer, must not overlap.
+ *
+ * On 9 nobody can tell where the next packet begins, so all unread bytes are dropped, packets behind the broken one too: the own
+ * index becomes the partner's write index, and its four bytes in region are written. The length is 0, and
+ * answer[PETRELKNOB_DROPPED] says how many bytes went. The next pull is 8, or takes what the partner has pushed since.
  */
 uint32_t petrelknob_pull(uint32_t begin, uint32_t end, uint32_t local_blocks, uint32_t remote_blocks,
                          uint32_t alignment, uint32_t own_index, uint8_t *region, size_t region_length,
@@ -200,6 +205,7 @@ struct petrelknob_direction {
     size_t length;        /* bytes there, which must be all of the region */
     uint32_t data_length; /* of the ring; 0 where the layout is refused */
     uint32_t own_index;   /* write index of the side that transmits, read index of the other */
+    uint32_t dropped;     /* unread bytes that the last pull dropped: 0, but where it was 9 */
 };
 
 /* Makes the direction ready, its own index 0. No byte of memory is read or written. Returns 0, or the first of 1, 2, 3, 4 and 6 that
@@ -216,6 +222,7 @@ static inline uint32_t petrelknob_direction_open(struct petrelknob_direction *di
     direction->length = memory ? length : 0;
     direction->data_length = layout[PETRELKNOB_DATA_LENGTH];
     direction->own_index = 0;
+    direction->dropped = 0;
     if (number == PETRELKNOB_ACCEPTED && direction->length != region->end - region->begin)
         return PETRELKNOB_WRONG_REGION;
     return number;
@@ -248,7 +255,8 @@ static inline uint32_t petrelknob_direction_push(struct petrelknob_direction *di
     return number;
 }
 
-/* Pulls the next packet (petrelknob_pull). Returns its number; where it is not 0, the own index stays and *length is 0.
+/* Pulls the next packet (petrelknob_pull). Returns its number; where it is not 0, *length is 0 and the own index stays, but on 9 all
+ * that is unread is dropped: direction->dropped says how many bytes, and the next pull goes on behind them.
  *
  * *length gets the packet's whole length. It is above buffer_length where the packet was cut to the buffer; never with a buffer of
  * petrelknob_largest_content(direction->data_length) bytes.
@@ -261,8 +269,8 @@ static inline uint32_t petrelknob_direction_pull(struct petrelknob_direction *di
     uint32_t number = petrelknob_pull(region->begin, region->end, region->local_blocks, region->remote_blocks,
                                       region->alignment, direction->own_index, direction->memory, direction->length,
                                       (uint8_t *)buffer, buffer_length, answer, PETRELKNOB_RING_VALUES);
-    if (number == PETRELKNOB_ACCEPTED)
-        direction->own_index = answer[PETRELKNOB_OWN_INDEX];
+    direction->own_index = answer[PETRELKNOB_OWN_INDEX]; /* as it was, where nothing was taken or dropped */
+    direction->dropped = answer[PETRELKNOB_DROPPED];
     *length = answer[PETRELKNOB_LENGTH];
     return number;
 }

@@ -30,6 +30,7 @@ fn opened() -> End {
 fn number_of(a: PacketAnswer) -> u32 {
     match a {
         PacketAnswer::Length(_) => 0,
+        PacketAnswer::Dropped(_) => 9,
         PacketAnswer::Refused(x) => x.number(),
     }
 }

@@ -107,11 +107,20 @@ pub fn reply(ends: Ends) -> Ends {
     ends.turned().pass(40, text).turned()
 }
 
-fn put_header(region: &mut Memory, g: Region, block: u8, k: u32) {
-    let at = g.blocks_offset as usize + block as usize * g.block_size as usize;
-    if at + 4 <= region.len() {
-        wire::write_u32(region, at, k);
+// Writes four bytes, where the region has them.
+fn overwrite(region: &mut Memory, offset: usize, k: u32) {
+    let n = region.len();
+    if n < 4 {
+        return;
     }
+    if offset <= n - 4 {
+        wire::write_u32(region, offset, k);
+    }
+}
+
+fn put_header(region: &mut Memory, g: Region, block: u8, k: u32) {
+    let offset = g.blocks_offset as usize + block as usize * g.block_size as usize;
+    overwrite(region, offset, k);
 }
 
 // The sender's core writes over the header of one of its blocks: in its own region it can write what it likes.
@@ -172,9 +181,36 @@ pub fn mend(ends: Ends) -> Ends {
     announce_with(ends, 5).finish()
 }
 
+// A packet's first two bytes are the length of its content.
+fn put_length(region: &mut Memory, g: Region, alignment: u16, index: u32) {
+    let offset = g.ring_offset as usize + alignment as usize + 4 + index as usize;
+    overwrite(region, offset, 0xFFFF);
+}
+
+// The sender's core writes over the packet that the receiver pulls next.
+fn break_packet(mut ends: Ends) -> Ends {
+    let n = ends.from.numbers;
+    let index = ends.to.numbers.read;
+    put_length(&mut ends.region, n.tx, n.alignment, index);
+    let line = texts::by(
+        n,
+        b"core writes ff ff over the length of the packet at index ",
+    );
+    line.number(index).print();
+    ends
+}
+
+// Nobody can tell where the packet ends, so all that is unread is dropped. The ring goes on, and the control message is pushed once more.
+pub fn lose(ends: Ends) -> Ends {
+    heading(b"7. The panel's core writes over a packet on its ring");
+    let ends = ends.send(5, b"stop?");
+    let ends = break_packet(ends.push());
+    ends.pull().pull().announce().finish()
+}
+
 // What was held is free again, in both tables, and no message starts there.
 pub fn release(ends: Ends) {
-    heading(b"7. The pump is done with the held message");
+    heading(b"8. The pump is done with the held message");
     let held = ends.answer;
     let ends = ends.finish().with(held);
     ends.view();

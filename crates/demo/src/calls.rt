@@ -60,8 +60,8 @@ pub fn push(mut end: End, tx: &mut Memory, content: &[u8]) -> End {
 // The length of a pulled packet's content.
 fn pulled_length(a: PacketAnswer) -> usize {
     match a {
-        PacketAnswer::Refused(_) => 0,
         PacketAnswer::Length(k) => k as usize,
+        _ => 0,
     }
 }
 

@@ -91,11 +91,8 @@ impl Ends {
     // The sender starts its ring, and the receiver pulls the start content.
     pub fn start(mut self) -> Ends {
         let from = calls::start(self.from, &mut self.region);
-        let pulled = calls::pull(self.to, &mut self.region);
-        let to = pulled.end;
         self.from = from;
-        self.to = to;
-        self
+        self.pull()
     }
 
     // The sender registers an endpoint.
@@ -105,7 +102,21 @@ impl Ends {
     }
 
     // Takes the answered control message over the ring in the sender's region: push, pull, arrival.
-    pub fn carry(mut self) -> Ends {
+    pub fn carry(self) -> Ends {
+        let a = self.answer;
+        let Answer::Control {
+            kind: _,
+            address: _,
+            block: _,
+        } = a
+        else {
+            return self;
+        };
+        self.push().arrive()
+    }
+
+    // The sender pushes the answered control message.
+    pub fn push(mut self) -> Ends {
         let a = self.answer;
         let Answer::Control {
             kind,
@@ -118,7 +129,15 @@ impl Ends {
         let message = [kind, address, block];
         let from = calls::push(self.from, &mut self.region, &message);
         self.from = from;
-        self.arrive()
+        self
+    }
+
+    // The receiver pulls, and nothing arrives.
+    pub fn pull(mut self) -> Ends {
+        let pulled = calls::pull(self.to, &mut self.region);
+        let to = pulled.end;
+        self.to = to;
+        self
     }
 
     // The receiver pulls what was pushed, and it arrives.

@@ -11,6 +11,7 @@ fn main() {
     let held = ends.answer;
     let ends = acts::reply(acts::ask(ends)).with(held);
     ends.view();
-    let ends = acts::mend(acts::spoil(ends)).with(held);
+    let ends = acts::mend(acts::spoil(ends));
+    let ends = acts::lose(ends).with(held);
     acts::release(ends);
 }

@@ -54,10 +54,11 @@ pub fn print_answered(line: Line, a: Answer) {
     answered(line, a).print();
 }
 
-// A ring call's number and length, and the own index that the end keeps.
+// A ring call's number and length, or what was dropped, and the own index that the end keeps.
 pub fn packet_answered(line: Line, a: PacketAnswer, index: u32) -> Line {
     match a {
         PacketAnswer::Refused(x) => refused(line, x),
+        PacketAnswer::Dropped(n) => dropped(refused(line, Refusal::BrokenPacket), n, index),
         PacketAnswer::Length(k) => packet(accepted(line), k, index),
     }
 }
@@ -96,6 +97,11 @@ fn delivered(line: Line, address: u8, block: u8, length: u32) -> Line {
 
 fn packet(line: Line, length: u32, index: u32) -> Line {
     let line = line.to(VALUES).bytes(length);
+    line.text(b", own index ").number(index)
+}
+
+fn dropped(line: Line, bytes: u32, index: u32) -> Line {
+    let line = line.text(b": ").bytes(bytes).text(b" dropped");
     line.text(b", own index ").number(index)
 }
 

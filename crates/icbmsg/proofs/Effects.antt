@@ -13,10 +13,11 @@ use Rattle.wire.specs.Bytes.{same}
 use Rattle.wire.specs.Reads.{answer}
 use Rattle.wire.proofs.Choices.{both}
 use Rattle.icmsg.specs.Ring.{inRule}
-use Rattle.icmsg.specs.Rules.{Outcome as RingOutcome, Answer, refused as ringNo, accepted as ringYes, pushRule as ringPush, startRule as ringStart, pullRule as ringPull}
+use Rattle.icmsg.specs.Rules.{Outcome as RingOutcome, Answer, refused as ringNo, accepted as ringYes, dropped as ringDropped, pushRule as ringPush, startRule as ringStart, pullRule as ringPull}
+use Rattle.icmsg.specs.Laws.{PlainAt}
 use Rattle.icmsg.specs.declared.Ring.{Ring}
-use Rattle.icmsg.proofs.Indexes.{indexes-in-rule, refusals}
-use Rattle.icbmsg.specs.Outcome.{Given, nothing, Outcome, refusedWith, ringRefused, refused, placed, withoutPlace, check, guard}
+use Rattle.icmsg.proofs.Indexes.{indexes-in-rule, refusals, pull-refused}
+use Rattle.icbmsg.specs.Outcome.{Given, nothing, Outcome, refusedWith, ringRefused, droppedTo, refused, placed, withoutPlace, check, guard}
 use Rattle.blocks.specs.Search.{Search, nowhere, foundAt}
 use Rattle.blocks.specs.Tables.{entry, lies, starts, startsData, allFree, freed, taken, runEntry, blocksFor, freeRun}
 use Rattle.icbmsg.specs.Ends.{blockAt, soundEnd, isOpen, changed, withWrite, withRead, foundOr, whole}
@@ -32,7 +33,7 @@ use Rattle.icbmsg.specs.Reading.{sizeIn, contentAt}
 use Rattle.blocks.specs.WellFormed.{leading, blockKind, Live}
 use Rattle.icbmsg.specs.WellFormed.{sentRun, bindingOf}
 use Rattle.icbmsg.specs.Ledger.{transmit, receive, RunChange, no-change, takes, trims, frees, reserveChange, deliveryChange, storedChange, registerChange, arrivalChange, runChange}
-use Rattle.icbmsg.specs.Theorems.{Part, no-part, length-part, message-part, refusedGiven, partOf}
+use Rattle.icbmsg.specs.Theorems.{Part, no-part, length-part, pull-part, message-part, refusedGiven, partOf}
 use Rattle.icbmsg.specs.Places.{InMessage, PartIn}
 use Rattle.blocks.proofs.LeastBlocks.{blocks-hold, blocks-least, blocks-one}
 use Rattle.blocks.proofs.Search.{first-at, lowest-at}
@@ -82,6 +83,7 @@ pub data EndChange (e : End) : RunChange → End → Type 0 where
 -- f tells the change of the runs by what comes with the answer
 pub data Effect (f : Given → RunChange) (e : End) (p : Part) : Outcome → Type 0 where
   refuses : (n : ℕ) → leb 1 n ≡ true → Effect f e p (refusedWith (refusedGiven p) e n)
+  drops : (n i : ℕ) (ws : List (ℕ × ℕ)) → p ≡ pull-part → isOpen e ≡ true → inRule (e .rx .«data_length») i ≡ true → Effect f e p (droppedTo (withRead e i) n ws)
   accepts : {o : Outcome} → o .number ≡ 0 → isOpen e ≡ true → PartIn e p o → EndChange e (f (o .given)) (o .next) → Effect f e p o
 
 -- ---- checks
@@ -130,41 +132,45 @@ pub whole-open : (e : End) (g : Region) (n : ℕ) → whole e g n ≡ true → i
 whole-open e g n h = both (isOpen e) (eqb n (g .length)) h .0
 
 -- the end's test says that an own index is in rule, and the other tests of a ring
-write-effect : (e : End) (w : Bool) (ws : List (ℕ × ℕ)) (a : Answer) → (w ≡ true → isOpen e ≡ true) → ((n : ℕ) → a ≡ ringNo n → 1 ≤ n) →
+write-effect : (e : End) (w : Bool) (ws : List (ℕ × ℕ)) (x : RingOutcome) (a : Answer) → (w ≡ true → isOpen e ≡ true) → PlainAt x a →
     ((k i : ℕ) → a ≡ ringYes k i → inRule (e .tx .«data_length») i ≡ true) → Effect (λ _. no-change) e length-part (pick w (pushOutcome e ws a) (ringRefused e 6))
-write-effect e true ws (ringNo n) o p q = refuses n (le-leb 1 n (p n refl))
-write-effect e true ws (ringYes k i) o p q = accepts refl (o refl) (refl, refl) (writes i (q k i refl))
-write-effect e false ws a o p q = refuses _ refl
+write-effect e true ws x (ringNo n) o p q = refuses n (le-leb 1 n (p .0))
+write-effect e true ws x (ringYes k i) o p q = accepts refl (o refl) (refl, refl) (writes i (q k i refl))
+write-effect e true ws x (ringDropped n i) o p q = absurd p
+write-effect e false ws x a o p q = refuses _ refl
 
 push-effect : (e : End) (tx c : List ℕ) → Effect (λ _. no-change) e length-part (pushOf e tx c)
 unfolding pushOf
 push-effect e tx c =
     let g : Ring = ringOf (e .alignment) (e .tx) in
     let o : RingOutcome = ringPush tx g (e .write) c in
-    write-effect e (whole e (e .tx) (length tx)) (o .region) (o .answer) (whole-open e (e .tx) (length tx))
-    (λ n h. refusals .push tx g (e .write) c n h .0) (λ k i h. indexes-in-rule .push tx g (e .write) c k i h)
+    write-effect e (whole e (e .tx) (length tx)) (o .region) o (o .answer) (whole-open e (e .tx) (length tx))
+    (refusals .push tx g (e .write) c) (λ k i h. indexes-in-rule .push tx g (e .write) c k i h)
 
 start-effect : (e : End) (n : ℕ) → Effect (λ _. no-change) e length-part (startOf e n)
 unfolding startOf
 start-effect e n =
     let g : Ring = ringOf (e .alignment) (e .tx) in
     let o : RingOutcome = ringStart n g in
-    write-effect e (whole e (e .tx) n) (o .region) (o .answer) (whole-open e (e .tx) n)
-    (λ m h. refusals .start n g m h .0) (λ k i h. indexes-in-rule .start n g k i h)
+    write-effect e (whole e (e .tx) n) (o .region) o (o .answer) (whole-open e (e .tx) n)
+    (refusals .start n g) (λ k i h. indexes-in-rule .start n g k i h)
 
 read-effect : (e : End) (w : Bool) (ws bs : List (ℕ × ℕ)) (a : Answer) → (w ≡ true → isOpen e ≡ true) → ((n : ℕ) → a ≡ ringNo n → 1 ≤ n) →
-    ((k i : ℕ) → a ≡ ringYes k i → inRule (e .rx .«data_length») i ≡ true) → Effect (λ _. no-change) e length-part (pick w (pullOutcome e ws bs a) (ringRefused e 6))
-read-effect e true ws bs (ringNo n) o p q = refuses n (le-leb 1 n (p n refl))
-read-effect e true ws bs (ringYes k i) o p q = accepts refl (o refl) (refl, refl) (reads i (q k i refl))
-read-effect e false ws bs a o p q = refuses _ refl
+    ((k i : ℕ) → a ≡ ringYes k i → inRule (e .rx .«data_length») i ≡ true) → ((n i : ℕ) → a ≡ ringDropped n i → inRule (e .rx .«data_length») i ≡ true) →
+    Effect (λ _. no-change) e pull-part (pick w (pullOutcome e ws bs a) (ringRefused e 6))
+read-effect e true ws bs (ringNo n) o p q d = refuses n (le-leb 1 n (p n refl))
+read-effect e true ws bs (ringYes k i) o p q d = accepts refl (o refl) (refl, refl) (reads i (q k i refl))
+read-effect e true ws bs (ringDropped n i) o p q d = drops n i ws refl (o refl) (d n i refl)
+read-effect e false ws bs a o p q d = refuses _ refl
 
-pull-effect : (e : End) (r : List ℕ) (b : ℕ) → Effect (λ _. no-change) e length-part (answer (pullRule e (length r) b) r)
+pull-effect : (e : End) (r : List ℕ) (b : ℕ) → Effect (λ _. no-change) e pull-part (answer (pullRule e (length r) b) r)
 pull-effect e r b =
     let g : Ring = ringOf (e .alignment) (e .rx) in
     let o : RingOutcome = answer (ringPull (length r) g (e .read) b) r in
     rw (pull-answer e (length r) b r)
     (read-effect e (whole e (e .rx) (length r)) (o .region) (o .buffer) (o .answer) (whole-open e (e .rx) (length r))
-    (λ n h. refusals .pull (length r) g (e .read) b r n h .0) (λ k i h. indexes-in-rule .pull (length r) g (e .read) b r k i h))
+    (λ n h. pull-refused (length r) g (e .read) b r n h .0) (λ k i h. indexes-in-rule .pull (length r) g (e .read) b r k i h)
+    (λ n i h. indexes-in-rule .drop (length r) g (e .read) b r n i h))
 
 pub size-pos : (e : End) → isOpen e ≡ true → (0 < e .tx .«block_size») × (0 < e .rx .«block_size»)
 size-pos e o = let z = sound e o in omega (arith, leb-true)
@@ -238,6 +244,10 @@ done-effect e s =
 -- a question on a part hands out none
 asked : {e : End} {p : Part} {o : Outcome} → refusedGiven p ≡ nothing → Effect (λ _. no-change) e p o → Effect (λ _. no-change) e no-part (withoutPlace o)
 asked q (refuses n h) = rw q (refuses n h)
+asked q (drops n i ws h o r) =
+    let x : refusedGiven pull-part ≡ nothing = rw h at q in
+    let z : _≡_ {A = ℕ} 0 1 = cc in
+    absurd (omega arith)
 asked q (accepts z o i m) = accepts z o (refl, refl) m
 
 -- register

@@ -25,7 +25,7 @@ use Rattle.icbmsg.specs.WellFormed.{heldRun, bindingOf, Stored, Separate
 use Rattle.icbmsg.specs.Theorems.{Part, Reached, opened, called}
 use Rattle.icbmsg.specs.declared.Region.{Region}
 use Rattle.icbmsg.specs.End.{End}
-use Rattle.icbmsg.proofs.Effects.{SentChange, run-taken, run-freed, run-trimmed, HeldChange, as-was, receives, finishes, stores, forgets, EndChange, stays, writes, reads, sends, keeps, Effect, refuses, accepts, sound, effect}
+use Rattle.icbmsg.proofs.Effects.{SentChange, run-taken, run-freed, run-trimmed, HeldChange, as-was, receives, finishes, stores, forgets, EndChange, stays, writes, reads, sends, keeps, Effect, refuses, drops, accepts, sound, effect}
 use Rattle.icbmsg.proofs.Separate.{Opens, opens, shuts, how-opened, separate, left-reached}
 use Rattle.icbmsg.proofs.RunsStay.{not-free}
 use Rattle.icbmsg.proofs.Refusals.{numbers-stay}
@@ -127,6 +127,7 @@ step-matches e c l w h d s = go (effect e c)
   where
     go : {f : Given → RunChange} {p : Part} {o : Outcome} → Effect f e p o → pick (eqb (o .number) 0) (enter (f (o .given)) l) l d s ≡ runAt (table d (o .next)) s
     go (refuses n q) = rw (ne-eqb n 0 (λ (z : n ≡ 0). omega (arith, leb-true 1 n q))) (h d s)
+    go (drops n i ws q o r) = matches l o w (reads i r) h d s
     go (accepts z o p m) = rw z (matches l o w m h d s)
 
 -- ---- a list of calls

@@ -14,7 +14,7 @@ use Rattle.wire.specs.Reads.{answer}
 use Rattle.wire.proofs.Choices.{both}
 use Rattle.wire.proofs.Sameness.{same-true, same-self}
 use Rattle.wire.specs.Bytes.{same}
-use Rattle.icmsg.specs.Rules.{Outcome as RingOutcome, Answer, refused as ringNo, accepted as ringYes, pushRule as ringPush, startRule as ringStart, pullRule as ringPull}
+use Rattle.icmsg.specs.Rules.{Outcome as RingOutcome, Answer, refused as ringNo, accepted as ringYes, dropped as ringDropped, pushRule as ringPush, startRule as ringStart, pullRule as ringPull}
 use Rattle.icbmsg.specs.Outcome.{Outcome, ringRefused, check, guard}
 use Rattle.blocks.specs.Search.{Search, nowhere, foundAt, isFound, firstFrom}
 use Rattle.blocks.specs.Tables.{entry, isUse, inUse, lies, starts, startsData, freeEntry, runEntry, freed, taken, blocksFor, freeRun}
@@ -380,12 +380,14 @@ module _ {e : End} (w : Separate e) (v : InvOf e) where
   unfolding changed
   push-good true ws (ringNo n) = record { kept = v }
   push-good true ws (ringYes k i) = record { kept = v }
+  push-good true ws (ringDropped n i) = record { kept = v }
   push-good false ws a = record { kept = v }
 
   pull-good : (b : Bool) (ws bs : List (ℕ × ℕ)) (a : Answer) → Good (pick b (pullOutcome e ws bs a) (ringRefused e 6))
   unfolding changed
   pull-good true ws bs (ringNo n) = record { kept = v }
   pull-good true ws bs (ringYes k i) = record { kept = v }
+  pull-good true ws bs (ringDropped n i) = record { kept = v }
   pull-good false ws bs a = record { kept = v }
 
   -- messages

@@ -8,7 +8,7 @@ use lib.ListN.{getD}
 use Rattle.wire.specs.Bytes.{littleEndian, fromLittleEndian, bytes, writes, wrote, same}
 use Rattle.region.specs.Layout.{isAlignment, isBlockCount, areBounds, roundDown, roundUp, ringMinimum, alignedSize, blockSizeOf, fitted, layout}
 use Rattle.icmsg.specs.Ring.{indexAt, inRule, isSound, used, packetLength, packet, contentLength, behind}
-use Rattle.icmsg.specs.Rules.{fitNumber, pushNumber, pushWrites, pushRule as ringPush, startRule as ringStart, lookAt, lookRule, takenWrites, takeRule, pullRule as ringPull}
+use Rattle.icmsg.specs.Rules.{fitNumber, pushNumber, pushWrites, pushRule as ringPush, startRule as ringStart, lookAt, lookRule, readTo, takeRule, pullRule as ringPull}
 use Rattle.blocks.specs.Tables.{allFree, fill, lowest, blocksFor, freeRun}
 use Rattle.endpoints.specs.Endpoints.{unusedFrom, goodName}
 use Rattle.icbmsg.specs.Ends.{isOpen, changed}
@@ -54,7 +54,7 @@ really-grown =
     }
 
 pub changes-can-come : ChangesCanCome
-unfolding changedCalls binding grownBinding message otherMessage started otherStarted wrote writes littleEndian fromLittleEndian bytes same isAlignment isBlockCount areBounds roundDown roundUp ringMinimum alignedSize blockSizeOf fitted layout indexAt inRule isSound used packetLength packet contentLength behind fitNumber pushNumber pushWrites ringPush ringStart lookAt lookRule takenWrites takeRule ringPull blocksFor allFree fill lowest freeRun unusedFrom goodName isOpen changed opening pushOf startOf pullRule viewOf doneOf initiates registerOf boundNamed boundSized boundRule dataRule arrivalRule rule lent step reading
+unfolding changedCalls binding grownBinding message otherMessage started otherStarted wrote writes littleEndian fromLittleEndian bytes same isAlignment isBlockCount areBounds roundDown roundUp ringMinimum alignedSize blockSizeOf fitted layout indexAt inRule isSound used packetLength packet contentLength behind fitNumber pushNumber pushWrites ringPush ringStart lookAt lookRule readTo takeRule ringPull blocksFor allFree fill lowest freeRun unusedFrom goodName isOpen changed opening pushOf startOf pullRule viewOf doneOf initiates registerOf boundNamed boundSized boundRule dataRule arrivalRule rule lent step reading
 changes-can-come = (
   unknown-kind 200 (lit< tt) (λ _. refl),
   (

@@ -20,7 +20,7 @@ use Rattle.icbmsg.specs.Theorems.{Part, message-part, partOf}
 use Rattle.icbmsg.specs.Places.{InMessage, PartIn, PartsInside, InPart, PartsApart}
 use Rattle.icbmsg.specs.declared.Region.{Region}
 use Rattle.icbmsg.specs.End.{End}
-use Rattle.icbmsg.proofs.Effects.{Effect, refuses, accepts, effect}
+use Rattle.icbmsg.proofs.Effects.{Effect, refuses, drops, accepts, effect}
 use Rattle.icbmsg.proofs.Separate.{separate}
 
 pub parts-inside : PartsInside
@@ -28,6 +28,7 @@ parts-inside e c z = go (effect e c) z
   where
     go : {f : Given → RunChange} {p : Part} {o : Outcome} → Effect f e p o → o .number ≡ 0 → PartIn e p o
     go (refuses n h) z = absurd (omega (arith, leb-true 1 n h))
+    go (drops n i ws q o r) z = absurd (omega (arith, z))
     go (accepts z o p m) _ = p
 
 -- ---- different starts
@@ -44,6 +45,7 @@ message-byte p m i = record { live = m .live; low = omega (arith, m .after-heade
 -- the part of a refusal has no byte
 part-byte : {e : End} {f : Given → RunChange} {o : Outcome} (d : Side) (s p : ℕ) → Effect f e (message-part d s) o → InPart o p → ByteOf (regionOf d e) (table d e) s p
 part-byte d s p (refuses n h) i = absurd (omega (arith, i .0, i .1))
+part-byte d s p (drops n i ws q o r) x = absurd (omega (arith, x .0, x .1))
 part-byte d s p (accepts z x m y) i = message-byte p m i
 
 module _ (g : Region) {good : Entry → Bool} {t : List Entry} (w : WellFormed (g .«block_count») good t) (p : ℕ) where

@@ -2,6 +2,7 @@
 use Rattle.region.proofs.AcceptedLayouts.{accepted-layouts-lie-inside}
 use Rattle.icmsg.proofs.Indexes.{indexes-in-rule, refusals as ring-refusals, used-bytes-stay-below}
 use Rattle.icmsg.proofs.RoundTrip.{push-and-pull, push-keeps-what-is-unread}
+use Rattle.icmsg.proofs.NeverJams.{never-jams}
 use Rattle.icmsg.proofs.WritesInside.{writes-inside}
 use Rattle.icmsg.proofs.PullReads.{pull-reads-what-is-listed}
 use Rattle.icbmsg.specs.Promises.{Promises}
@@ -43,6 +44,7 @@ promises =
       used-bytes = used-bytes-stay-below;
       round-trip = push-and-pull;
       unread-kept = push-keeps-what-is-unread;
+      never-jams = never-jams;
       ring-writes = writes-inside;
       by-history = by-history;
       nothing-added = nothing-added;

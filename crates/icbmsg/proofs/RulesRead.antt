@@ -7,7 +7,7 @@ use lib.Dec.{leb, ltb, eqb}
 use lib.ListN.{length, getD}
 use Rattle.wire.specs.Choice.{pick}
 use Rattle.wire.specs.Reads.{Reads, gives, answer, positionsRead, andThen}
-use Rattle.icmsg.specs.Rules.{Answer, refused, accepted, answerNumber, Outcome as RingOutcome, pullRule as ringPull}
+use Rattle.icmsg.specs.Rules.{Answer, refused, accepted, dropped, answerNumber, Outcome as RingOutcome, pullRule as ringPull}
 use Rattle.icmsg.specs.Reading.{past, pullReads, isOneOf}
 use Rattle.icmsg.specs.declared.Ring.{Ring}
 use Rattle.icmsg.proofs.PullReads.{pull-reads-what-is-listed}
@@ -42,9 +42,10 @@ answer-guard false n e t r = refl
 positionsRead-map : {A : Type 0} (t : Reads A) (f : A → Outcome) (r : List ℕ) → positionsRead (andThen t (λ a. gives (f a))) r ≡ positionsRead t r
 positionsRead-map t f r = positionsRead-andThen t (λ a. gives (f a)) r ∙ append-nil (positionsRead t r)
 
-number-pulled : (e : End) (ws bs : List (ℕ × ℕ)) (a : Answer) → pullOutcome e ws bs a .number ≡ answerNumber a
+pub number-pulled : (e : End) (ws bs : List (ℕ × ℕ)) (a : Answer) → pullOutcome e ws bs a .number ≡ answerNumber a
 number-pulled e ws bs (refused n) = refl
 number-pulled e ws bs (accepted k i) = refl
+number-pulled e ws bs (dropped n i) = refl
 
 pub pull-answer : (e : End) (n b : ℕ) (r : List ℕ) → answer (pullRule e n b) r ≡ pick (whole e (e .rx) n) (pulled e (answer (ringPull n (ringOf (e .alignment) (e .rx)) (e .read) b) r)) (ringRefused e 6)
 unfolding pullRule

@@ -18,7 +18,7 @@ use Rattle.icbmsg.specs.WellFormed.{heldRun, bindingOf, Stored, Separate
 use Rattle.icbmsg.specs.Theorems.{Part, called, Touched, RunsStay, SendTrims}
 use Rattle.icbmsg.specs.Ledger.{Side, transmit, receive, table, RunChange, runChange}
 use Rattle.blocks.proofs.Tables.{clash, Relation, below, first, later, above, relation, one-run, Taken, its-first, its-later, apart, Freed, gone, free-at, freed-view, first-entry, taken-view, free-law, live, run-of}
-use Rattle.icbmsg.proofs.Effects.{SentChange, run-taken, run-freed, run-trimmed, HeldChange, as-was, receives, finishes, stores, forgets, EndChange, stays, writes, reads, sends, keeps, Effect, refuses, accepts, sound, whole-open, size-pos, effect}
+use Rattle.icbmsg.proofs.Effects.{SentChange, run-taken, run-freed, run-trimmed, HeldChange, as-was, receives, finishes, stores, forgets, EndChange, stays, writes, reads, sends, keeps, Effect, refuses, drops, accepts, sound, whole-open, size-pos, effect}
 use Rattle.blocks.proofs.LeastBlocks.{blocks-one, blocks-least}
 use Rattle.icbmsg.proofs.Separate.{separate}
 use Rattle.blocks.specs.declared.Use.{Use}
@@ -111,6 +111,7 @@ step-kept e c w d s l k i r = go (effect e c) k
   where
     go : {f : Given → RunChange} {p : Part} {o : Outcome} → Effect f e p o → (o .number ≡ 0 → Touched d s (f (o .given)) → ⊥) → entry (table d (o .next)) i ≡ entry (table d e) i
     go (refuses n h) k = refl
+    go (drops n x ws q o h) k = changed-kept o (reads x h) w d s l (λ z. z) i r
     go (accepts z o p m) k = changed-kept o m w d s l (k z) i r
 
 -- ---- a list of calls

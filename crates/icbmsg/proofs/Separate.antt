@@ -22,7 +22,7 @@ use Rattle.blocks.specs.WellFormed.{leading, blockKind, IsFree, Live, InRun, We
 use Rattle.icbmsg.specs.WellFormed.{sentRun, heldRun, bindingOf, IsStored, IsKept, Stored, Separate}
 use Rattle.icbmsg.specs.Theorems.{Part, Reached, opened, called, Covered, Separated, RunsDisjoint, BlocksCovered}
 use Rattle.blocks.proofs.Tables.{clash, one-run, Taken, its-first, its-later, apart, freed-live, freed-stays, taken-first, taken-stays, freed-view, taken-view, free-at, free-law, take-law, trim-law, fresh-entry, fresh-well-formed}
-use Rattle.icbmsg.proofs.Effects.{SentChange, run-taken, run-freed, run-trimmed, HeldChange, as-was, receives, finishes, stores, forgets, EndChange, writes, sends, keeps, Effect, refuses, accepts, sound, effect, stays, reads}
+use Rattle.icbmsg.proofs.Effects.{SentChange, run-taken, run-freed, run-trimmed, HeldChange, as-was, receives, finishes, stores, forgets, EndChange, writes, reads, sends, keeps, Effect, refuses, drops, accepts, sound, effect, stays, reads}
 use Rattle.blocks.specs.declared.Use.{Use}
 use Rattle.blocks.specs.declared.Use.the-variants.{Free, Inside, Reserved, SentData, SentBinding, ReceivedData, StoredBinding}
 use Rattle.blocks.specs.declared.Entry.{Entry}
@@ -212,6 +212,7 @@ stays-separate e c w = go (effect e c) w
   where
     go : {f : Given → RunChange} {p : Part} {o : Outcome} → Effect f e p o → Separate e → Separate (o .next)
     go (refuses n h) w = w
+    go (drops n i ws q o r) w = moved o (reads i r) w
     go (accepts z o p m) w = moved o m w
 
 -- ---- a fresh end has it

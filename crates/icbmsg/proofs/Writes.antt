@@ -13,7 +13,7 @@ use Rattle.wire.specs.Bytes.{littleEndian, straight, writes, Within, Inside}
 use Rattle.wire.specs.Reads.{answer}
 use Rattle.wire.proofs.Choices.{both}
 use Rattle.wire.proofs.Positions.{within-straight, within-wider}
-use Rattle.icmsg.specs.Rules.{Outcome as RingOutcome, Answer, refused as ringNo, accepted as ringYes, pushRule as ringPush, startRule as ringStart, pullRule as ringPull}
+use Rattle.icmsg.specs.Rules.{Outcome as RingOutcome, Answer, refused as ringNo, accepted as ringYes, dropped as ringDropped, pushRule as ringPush, startRule as ringStart, pullRule as ringPull}
 use Rattle.icmsg.specs.Laws.{InRing}
 use Rattle.icmsg.specs.declared.Ring.{Ring}
 use Rattle.icmsg.proofs.WritesInside.{writes-inside}
@@ -75,12 +75,14 @@ write-in : {t : ℕ} (e : End) (w : Bool) (ws : List (ℕ × ℕ)) (a : Answer) 
     WritesIn e (λ _. tx-ring) t 0 0 (pick w (pushOutcome e ws a) (ringRefused e 6))
 write-in e true ws (ringNo n) h = quiet
 write-in e true ws (ringYes k i) h = record { area = (h .0, refl); tx = h .1; rx = tt; buffer = tt }
+write-in e true ws (ringDropped n i) h = quiet
 write-in e false ws a h = quiet
 
 read-in : {r b : ℕ} (e : End) (w : Bool) (ws bs : List (ℕ × ℕ)) (a : Answer) → InRing (ringOf (e .alignment) (e .rx)) ws × Inside r ws → Inside b bs →
     WritesIn e (λ _. rx-ring) 0 r b (pick w (pullOutcome e ws bs a) (ringRefused e 6))
 read-in e true ws bs (ringNo n) h k = quiet
 read-in e true ws bs (ringYes m i) h k = record { area = (refl, h .0); tx = tt; rx = h .1; buffer = k }
+read-in e true ws bs (ringDropped n i) h k = record { area = (refl, h .0); tx = tt; rx = h .1; buffer = tt }
 read-in e false ws bs a h k = quiet
 
 pull-in : (e : End) (r : List ℕ) (b : ℕ) → WritesIn e (λ _. rx-ring) 0 (length r) b (answer (pullRule e (length r) b) r)

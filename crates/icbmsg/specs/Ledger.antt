@@ -10,7 +10,7 @@ use Rattle.blocks.specs.Tables.{entry, blocksFor}
 use Rattle.blocks.specs.WellFormed.{BlockKind, free, inside, leading, blockKind, IsFree}
 use Rattle.blocks.specs.declared.Entry.{Entry}
 use Rattle.icbmsg.specs.Regions.{blockSize}
-use Rattle.icbmsg.specs.Outcome.{Given, nothing, aLength, aRun, control, delivery, Outcome}
+use Rattle.icbmsg.specs.Outcome.{Given, nothing, aLength, dropped, aRun, control, delivery, Outcome}
 use Rattle.icbmsg.specs.Opening.{opening}
 use Rattle.icbmsg.specs.declared.Opening.{Opening}
 use Rattle.icbmsg.specs.Arrivals.{decode, sizeAt}
@@ -46,6 +46,7 @@ pub data RunChange : Type 0 where
 abbrev pub reserveChange : Given → RunChange
 reserveChange nothing = no-change
 reserveChange (aLength k) = no-change
+reserveChange (dropped n) = no-change
 reserveChange (aRun s n) = takes transmit s n
 reserveChange (control k a b) = no-change
 reserveChange (delivery a b k) = no-change
@@ -54,6 +55,7 @@ reserveChange (delivery a b k) = no-change
 abbrev pub deliveryChange : ℕ → Given → RunChange
 deliveryChange z nothing = no-change
 deliveryChange z (aLength k) = no-change
+deliveryChange z (dropped n) = no-change
 deliveryChange z (aRun s n) = no-change
 deliveryChange z (control k a b) = no-change
 deliveryChange z (delivery a b k) = takes receive b (blocksFor z k)
@@ -62,6 +64,7 @@ deliveryChange z (delivery a b k) = takes receive b (blocksFor z k)
 abbrev pub storedChange : ℕ → ℕ → Given → RunChange
 storedChange s n nothing = takes receive s n
 storedChange s n (aLength k) = no-change
+storedChange s n (dropped m) = no-change
 storedChange s n (aRun x m) = no-change
 storedChange s n (control k a b) = no-change
 storedChange s n (delivery a b k) = no-change
@@ -70,6 +73,7 @@ storedChange s n (delivery a b k) = no-change
 abbrev pub registerChange : ℕ → Given → RunChange
 registerChange n nothing = no-change
 registerChange n (aLength k) = no-change
+registerChange n (dropped m) = no-change
 registerChange n (aRun s m) = no-change
 registerChange n (control k a s) = pick (eqb k 2) (takes transmit s n) (frees receive s)
 registerChange n (delivery a b k) = no-change

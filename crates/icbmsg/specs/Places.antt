@@ -12,12 +12,12 @@ use Rattle.blocks.specs.Tables.{entry}
 use Rattle.blocks.specs.WellFormed.{Live}
 use Rattle.blocks.specs.declared.Entry.{Entry}
 use Rattle.icbmsg.specs.Regions.{blockCount, blockSize, blocksOffset}
-use Rattle.icbmsg.specs.Outcome.{Given, nothing, aLength, aRun, control, delivery, Outcome}
+use Rattle.icbmsg.specs.Outcome.{Given, nothing, aLength, dropped, aRun, control, delivery, Outcome}
 use Rattle.icbmsg.specs.Ends.{blockAt}
 use Rattle.icbmsg.specs.Rings.{ringOf}
 use Rattle.icbmsg.specs.Messages.{need}
 use Rattle.icbmsg.specs.Calls.{Call, start, push, pull, reserve, room, send, drop, arrival, view, done, register, askRoom, askView, lent, step}
-use Rattle.icbmsg.specs.Theorems.{Reached, Part, no-part, length-part, message-part, partOf}
+use Rattle.icbmsg.specs.Theorems.{Reached, Part, no-part, length-part, pull-part, message-part, partOf}
 use Rattle.icbmsg.specs.Ledger.{Side, transmit, receive, regionOf, table}
 use Rattle.icbmsg.specs.declared.Region.{Region}
 use Rattle.icbmsg.specs.End.{End}
@@ -35,6 +35,7 @@ pub record InMessage (g : Region) (t : List Entry) (s : ℕ) (o : Outcome) : Typ
 abbrev pub PartIn : End → Part → Outcome → Type 0
 PartIn e no-part o = (o .begin ≡ 0) × (o .size ≡ 0)
 PartIn e length-part o = (o .begin ≡ 0) × (o .size ≡ 0)
+PartIn e pull-part o = (o .begin ≡ 0) × (o .size ≡ 0)
 PartIn e (message-part d s) o = InMessage (regionOf d e) (table d e) s o
 
 -- The part that an accepted call hands out lies inside its own message: a room's in the transmit region, a view's in the receive
@@ -67,6 +68,7 @@ pub data Area : Type 0 where
 abbrev pub registerArea : End → List ℕ → Given → Area
 registerArea e n nothing = no-area
 registerArea e n (aLength k) = no-area
+registerArea e n (dropped m) = no-area
 registerArea e n (aRun s m) = no-area
 registerArea e n (control k a s) = pick (eqb k 2) (own-run s (need e (length n + 1))) no-area
 registerArea e n (delivery a b k) = no-area

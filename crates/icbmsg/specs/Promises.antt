@@ -34,6 +34,7 @@ pub record Promises : Type 0 where
   pub used-bytes : Ring.UsedBytes
   pub round-trip : Ring.RoundTrip
   pub unread-kept : Ring.UnreadKept
+  pub never-jams : Ring.NeverJams
   pub ring-writes : Ring.WritesInside
   pub by-history : ByHistory
   pub nothing-added : NothingAdded

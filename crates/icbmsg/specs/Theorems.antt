@@ -7,6 +7,9 @@ use mathlib.Core.List.{List, [], _∷_}
 use lib.Dec.{eqb}
 use lib.ListN.{length}
 use Rattle.wire.specs.Bytes.{same}
+use Rattle.icmsg.specs.Ring.{writeIndexAt, indexAt, used}
+use Rattle.icmsg.specs.Rules.{readTo}
+use Rattle.icmsg.specs.declared.Ring.{Ring}
 use Rattle.blocks.specs.Search.{foundAt}
 use Rattle.blocks.specs.Tables.{entry, starts, startsData, runEntry, blocksFor, inUse}
 use Rattle.blocks.specs.Names.{paddedName}
@@ -15,9 +18,10 @@ use Rattle.blocks.specs.declared.Use.the-variants.{Free, Reserved, SentData, Se
 use Rattle.blocks.specs.declared.Entry.{Entry}
 use Rattle.endpoints.specs.Endpoints.{at, isUnused, registered, endpointAt, someEndpoint, uses, unusedFrom, holds, goodName}
 use Rattle.endpoints.specs.declared.Endpoint.{Endpoint}
-use Rattle.icbmsg.specs.Regions.{blockCount, blockSize}
-use Rattle.icbmsg.specs.Outcome.{Given, nothing, aLength, Outcome, refusedWith, refused}
-use Rattle.icbmsg.specs.Ends.{isOpen, whole}
+use Rattle.icbmsg.specs.Regions.{blockCount, blockSize, dataLength}
+use Rattle.icbmsg.specs.Outcome.{Given, nothing, aLength, Outcome, refusedWith, droppedTo, refused}
+use Rattle.icbmsg.specs.Ends.{isOpen, whole, withRead}
+use Rattle.icbmsg.specs.Rings.{ringOf}
 use Rattle.icbmsg.specs.Opening.{opening}
 use Rattle.icbmsg.specs.declared.Opening.{Opening}
 use Rattle.icbmsg.specs.Messages.{need, reservation}
@@ -34,21 +38,22 @@ pub data Reached : End → Type 0 where
   opened : (o : Opening) → Reached (opening o .next)
   called : {e : End} (c : Call) → Reached e → Reached (step e c .next)
 
--- what a call hands out beside its number: the length of a ring call, a part of the message at s (a room on the transmit side, a view on the
--- receive side), or neither
+-- what a call hands out beside its number: the length of a ring call, which is a pull or not; a part of the message at s (a room on the transmit
+-- side, a view on the receive side); or neither
 pub data Part : Type 0 where
-  no-part length-part : Part
+  no-part length-part pull-part : Part
   message-part : (d : Side) (s : ℕ) → Part
 
 abbrev pub refusedGiven : Part → Given
 refusedGiven no-part = nothing
 refusedGiven length-part = aLength 0
+refusedGiven pull-part = aLength 0
 refusedGiven (message-part d s) = nothing
 
 unfoldable pub partOf : Call → Part
 partOf (start tx) = length-part
 partOf (push tx c) = length-part
-partOf (pull rx b) = length-part
+partOf (pull rx b) = pull-part
 partOf (reserve k) = no-part
 partOf (room tx s) = message-part transmit s
 partOf (send tx s a k) = no-part
@@ -62,10 +67,16 @@ partOf (askView s n) = no-part
 
 -- ---- D1: refusals
 
--- An outcome whose number is not 0 is that number and nothing else: no place, no write, the end as it was, and nothing that comes with it
--- but a ring call's length 0.
-abbrev pub Refusals : Type 0
-Refusals = (e : End) (c : Call) → step e c .number ≢ 0 → step e c ≡ refusedWith (refusedGiven (partOf c)) e (step e c .number)
+pub record Refusals : Type 0 where
+  -- An outcome whose number is not 0 is that number and nothing else: no place, no write, the end as it was, and nothing that comes with it
+  -- but a ring call's length 0.
+  pub plain : (e : End) (c : Call) → step e c .number ≢ 0 → (partOf c ≡ pull-part → step e c .number ≢ 9) → step e c ≡ refusedWith (refusedGiven (partOf c)) e (step e c .number)
+  -- R14: a pull's 9 is that number, the length 0 and how many bytes were dropped, from the own read index to the partner's index w; the read
+  -- index is then w, and its four bytes are written. All else of the end is as it was, its tables, endpoints and bindings too.
+  pub broken : (e : End) (rx b : List ℕ) → step e (pull rx b) .number ≡ 9 →
+      let g : Ring = ringOf (e .alignment) (e .rx) in
+      let w : ℕ = indexAt rx (writeIndexAt g) in
+      step e (pull rx b) ≡ droppedTo (withRead e w) (used (dataLength (e .rx)) (e .read) w) (readTo g w)
 
 -- ---- O4: open ends
 

@@ -14,7 +14,7 @@ use Rattle.wire.specs.Reads.{answer}
 use Rattle.wire.proofs.Positions.{length-wrote, wrote-append, byte-kept, outside-writes, bytes-kept, bytes-read-back, bytes-part, bytes-first, bytes-that-fit, bytes-at-same, number-written}
 use Rattle.wire.proofs.Wrapped.{wrapped-apart, wrapped-shift}
 use Rattle.icmsg.specs.Ring.{readIndexAt, writeIndexAt, dataAt, from, indexAt, inRule, used, packetLength, packet, contentLength, behind}
-use Rattle.icmsg.specs.Rules.{accepted, refusal, pushNumber, pushWrites, pushed, pushRule, found, lookRule, takenWrites, pullFound}
+use Rattle.icmsg.specs.Rules.{accepted, refusal, pushNumber, pushWrites, pushed, pushRule, found, lookRule, readTo, pullFound}
 use Rattle.icmsg.specs.Laws.{Sound, after, UnreadKept, RoundTrip}
 use Rattle.icmsg.specs.declared.Ring.{Ring}
 use Rattle.icmsg.proofs.Checks.{HasSpace, used-straight}
@@ -43,7 +43,7 @@ length-packet : (c : List ℕ) → length (packet c) ≡ packetLength (length c)
 unfolding packet packetLength
 length-packet c = simp (length-append, length-replicate) (omega arith)
 
-packet-low : (k : ℕ) → 4 + k ≤ packetLength k
+pub packet-low : (k : ℕ) → 4 + k ≤ packetLength k
 unfolding packetLength
 packet-low k = omega arith
 
@@ -133,7 +133,7 @@ push-and-pull s g w c k i b small h =
     (past-6 (length s) g w b (withIndex s g w c) (p .test)
     ∙ ap (λ f. answer (pullFound g w b f) (withIndex s g w c)) (packet-found s g w c (p .sound) short small rule)
     ∙ take-flat g w b (withIndex s g w c) (length c)
-    ∙ ap (λ (l : List ℕ). record { answer = accepted (length c) (behind (g .«data_length») w (length c)); region = takenWrites g w (length c); buffer = writes (straight 0) l })
+    ∙ ap (λ (l : List ℕ). record { answer = accepted (length c) (behind (g .«data_length») w (length c)); region = readTo g (behind (g .«data_length») w (length c)); buffer = writes (straight 0) l })
     (content-read s g w c (p .sound) short (min (length c) b) (omega arith) ∙ take-that-fit c b))
 
 -- ---- a push leaves alone what is unread

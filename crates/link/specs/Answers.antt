@@ -2,11 +2,11 @@
 use Prim.Native.Nat.{ℕ}
 use mathlib.Core.List.{List, []}
 use Rattle.refusal.specs.Numbers.{numberOf}
-use Rattle.icmsg.specs.Rules.{Answer as RingAnswer, refused as ringNo, accepted as ringYes}
+use Rattle.icmsg.specs.Rules.{Answer as RingAnswer, refused as ringNo, accepted as ringYes, dropped as ringDropped}
 use Rattle.endpoints.specs.Endpoints.{endpointsAfter, bindingsAfter}
 use Rattle.endpoints.specs.declared.Endpoint.{Endpoint}
 use Rattle.endpoints.specs.declared.Binding.{Binding}
-use Rattle.icbmsg.specs.Outcome.{Given, nothing, aLength, aRun, control, delivery, Outcome}
+use Rattle.icbmsg.specs.Outcome.{Given, nothing, aLength, dropped, aRun, control, delivery, Outcome}
 use Rattle.icbmsg.specs.End.{End}
 use Rattle.icbmsg.specs.declared.Numbers.{Numbers}
 use Rattle.checks.specs.Parts.{joined}
@@ -57,23 +57,22 @@ applied c e =
       bindings = bindingsAfter (c .binding) (e .bindings);
     }
 
--- of start, push and pull: the length, 0 on a refusal
+-- of start, push and pull: the length, 0 on a refusal, or what was dropped
 abbrev pub packetNumber : PacketAnswer → ℕ
 packetNumber (PacketAnswer.Length k) = 0
+packetNumber (PacketAnswer.Dropped n) = 9
 packetNumber (PacketAnswer.Refused x) = numberOf x
 
 abbrev pub packetGiven : PacketAnswer → Given
 packetGiven (PacketAnswer.Length k) = aLength k
+packetGiven (PacketAnswer.Dropped n) = dropped n
 packetGiven (PacketAnswer.Refused x) = aLength 0
 
--- of what a ring answered: the length, and the own index where it was own before
-abbrev pub lengthOf : RingAnswer → ℕ
-lengthOf (ringNo n) = 0
-lengthOf (ringYes k i) = k
-
-abbrev pub indexOf : ℕ → RingAnswer → ℕ
-indexOf own (ringNo n) = own
-indexOf own (ringYes k i) = i
+-- the same of what a ring answered
+abbrev pub givenIn : RingAnswer → Given
+givenIn (ringNo n) = aLength 0
+givenIn (ringYes k i) = aLength k
+givenIn (ringDropped n i) = dropped n
 
 abbrev pub ringAnswered : PacketAnswer → End → Outcome
 ringAnswered a e = record { number = packetNumber a; given = packetGiven a; begin = 0; size = 0; tx = []; rx = []; buffer = []; next = e }

@@ -1,6 +1,6 @@
 // One end of the link, as code: its state in four parts, and its calls by family: openings, rings, messages, arrivals, registrations. A call is
 // an associated function on the parts that it needs. The tables are changed in place; what else changes is handed back. A refused call
-// changes nothing.
+// changes nothing, but that a pull drops what is unread at a broken packet.
 mod arrivals;
 mod messages;
 mod openings;
@@ -56,9 +56,11 @@ pub enum Answer {
     Refused(Refusal),
 }
 
-// What a ring call answers: the length of the packet's content. The own index is among the numbers.
+// What a ring call answers: the length of the packet's content, or of a broken packet (9) how many unread bytes were dropped. The own index is
+// among the numbers.
 pub enum PacketAnswer {
     Length(u32),
+    Dropped(u32),
     Refused(Refusal),
 }
 

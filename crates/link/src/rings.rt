@@ -4,7 +4,7 @@ ghost use lib.ListN.{length};
 ghost use Rattle.wire.specs.Reads.{answer};
 ghost use Rattle.icmsg.specs.Rules.{answerOf, answerNumber};
 ghost use Rattle.icbmsg.specs.Outcome.{aLength, withoutWrites};
-ghost use Rattle.link.specs.Answers.{packetNumber, packetGiven, lengthOf, indexOf};
+ghost use Rattle.link.specs.Answers.{packetNumber, packetGiven, givenIn};
 ghost use Rattle.link.specs.Parts.{OnNumbers, Writes};
 ghost use Rattle.icbmsg.specs.Rings.{ringOf, startOf, pushOf, pullRule};
 use crate::End;
@@ -27,24 +27,15 @@ fn ring_of(a: u16, g: Region) -> Ring
     }
 }
 
-// What a ring's answer tells the caller: the length. The own index is among the numbers.
+// What a ring's answer tells the caller. The own index is among the numbers.
 fn told(a: RingAnswer) -> PacketAnswer
     ensures number { λ r. ⌜ packetNumber r ≡ answerNumber (answerOf a) ⌝ }
-    ensures given { λ r. ⌜ packetGiven r ≡ aLength (lengthOf (answerOf a)) ⌝ }
+    ensures given { λ r. ⌜ packetGiven r ≡ givenIn (answerOf a) ⌝ }
 {
     match a {
         RingAnswer::Refused(x) => PacketAnswer::Refused(x),
+        RingAnswer::Dropped { bytes, index: _ } => PacketAnswer::Dropped(bytes),
         RingAnswer::Accepted { length, index: _ } => PacketAnswer::Length(length),
-    }
-}
-
-// The own index afterwards: that of the ring's answer, or as it was where the ring refused.
-fn own_index(a: RingAnswer, own: u32) -> u32
-    ensures { λ r. ⌜ r ≡ indexOf own (answerOf a) ⌝ }
-{
-    match a {
-        RingAnswer::Refused(_) => own,
-        RingAnswer::Accepted { length: _, index } => index,
     }
 }
 
@@ -68,7 +59,7 @@ impl End {
             return refused(numbers);
         }
         let answer = icmsg::start(tx, ring_of(numbers.alignment, numbers.tx));
-        numbers.write = own_index(answer, numbers.write);
+        numbers.write = answer.index_after(numbers.write);
         RingCalled {
             answer: told(answer),
             numbers,
@@ -89,14 +80,15 @@ impl End {
             numbers.write,
             content,
         );
-        numbers.write = own_index(answer, numbers.write);
+        numbers.write = answer.index_after(numbers.write);
         RingCalled {
             answer: told(answer),
             numbers,
         }
     }
 
-    // Takes the next packet off the receive ring, and copies what fits of its content to the buffer.
+    // Takes the next packet off the receive ring, and copies what fits of its content to the buffer. At a broken packet all that is unread is
+    // dropped.
     pub fn pull(mut numbers: Numbers, rx: &mut [u8], buffer: &mut [u8]) -> RingCalled
         ensures answer { λ r. ⌜ OnNumbers (λ e. withoutWrites (answer (pullRule e (length (now (rx .entry))) (length (now (buffer .entry)))) (now (rx .entry)))) numbers r ⌝ }
         ensures rx { λ _. ⌜ Writes (λ o. o .rx) (λ e. answer (pullRule e (length (now (rx .entry))) (length (now (buffer .entry)))) (now (rx .entry))) numbers (now (rx .entry)) (now (rx .exit)) ⌝ }
@@ -111,7 +103,7 @@ impl End {
             numbers.read,
             buffer,
         );
-        numbers.read = own_index(answer, numbers.read);
+        numbers.read = answer.index_after(numbers.read);
         RingCalled {
             answer: told(answer),
             numbers,

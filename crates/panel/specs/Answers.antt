@@ -5,7 +5,7 @@ use mathlib.Core.List.{List, [], _∷_}
 use lib.ListN.{length, take}
 use Rattle.wire.specs.Bytes.{straight, writes, wrote}
 use Rattle.region.specs.Layout.{Outcome}
-use Rattle.icmsg.specs.Rules.{Answer, refused, accepted}
+use Rattle.icmsg.specs.Rules.{Answer, lengthIn, droppedIn, indexAfter}
 
 -- the caller's numbers s after an answer: as many of the answer's as fit, and the rest of s as it was
 unfoldable pub answered : List ℕ → List ℕ → List ℕ
@@ -15,10 +15,9 @@ answered s numbers = wrote s (writes (straight 0) (take (length s) numbers))
 abbrev pub layoutNumbers : Outcome → List ℕ
 layoutNumbers y = y .begin ∷ y .dataLength ∷ y .blocksBegin ∷ y .blockSize ∷ y .end ∷ []
 
--- the two numbers of a ring call's answer: the length, 0 on a refusal, and the own index, which a refusal leaves as it was
+-- the three numbers of a ring call's answer: the length, the own index, which was own before, and how many bytes were dropped
 abbrev pub ringNumbers : ℕ → Answer → List ℕ
-ringNumbers own (refused n) = 0 ∷ own ∷ []
-ringNumbers own (accepted k i) = k ∷ i ∷ []
+ringNumbers own a = lengthIn a ∷ indexAfter own a ∷ droppedIn a ∷ []
 
 -- the number of a yes or no
 abbrev pub yesNumber : Bool → ℕ

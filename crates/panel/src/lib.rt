@@ -1,6 +1,6 @@
 // The interface for C: layout, start, push and pull on plain numbers and slices. include/petrelknob.h declares it.
 ghost use mathlib.Core.Path.{_≡_};
-ghost use lib.ListN.{length};
+ghost use lib.ListN.{length, set};
 ghost use Rattle.wire.specs.Bytes.{wrote, same};
 ghost use Rattle.region.specs.Layout.{layout};
 ghost use Rattle.icmsg.specs.Ring.{startContent};
@@ -18,14 +18,23 @@ enum Opened {
     Refused(Refusal),
 }
 
-// Puts as many of the numbers as fit into the caller's answer.
+// Puts v at position i of the caller's answer, where it has one.
+fn put_at(answer: &mut [u32], i: usize, v: u32)
+    ensures { λ _. ⌜ now (answer .exit) ≡ set (now (answer .entry)) i v ⌝ }
+{
+    if i < answer.len() {
+        answer[i] = v;
+    }
+}
+
+// Puts as many of the numbers as fit into the caller's answer. How many there are is known to the compiler, and it makes a store of each
+// turn; how many fit is not, and a loop over those would be a call of memcpy.
 fn put_numbers(answer: &mut [u32], numbers: &[u32])
     ensures { λ _. ⌜ now (answer .exit) ≡ answered (now (answer .entry)) (now (numbers .entry)) ⌝ }
 {
-    let n = wire::least(answer.len(), numbers.len());
     let mut i = 0;
-    while i < n {
-        answer[i] = numbers[i];
+    while i < numbers.len() {
+        put_at(answer, i, numbers[i]);
         i += 1;
     }
 }
@@ -78,23 +87,14 @@ fn open_ring(begin: u32, end: u32, local: u32, remote: u32, alignment: u32, n: u
     }
 }
 
-// Puts a ring call's length and own index into the caller's answer, and gives its number.
+// Puts a ring call's length, own index and dropped bytes into the caller's answer, and gives its number.
 fn give(answer: &mut [u32], own: u32, a: RingAnswer) -> u32
     ensures number { λ r. ⌜ r ≡ answerNumber (answerOf a) ⌝ }
     ensures numbers { λ _. ⌜ now (answer .exit) ≡ answered (now (answer .entry)) (ringNumbers own (answerOf a)) ⌝ }
 {
-    match a {
-        RingAnswer::Accepted { length, index } => {
-            let numbers = [length, index];
-            put_numbers(answer, &numbers);
-            0
-        }
-        RingAnswer::Refused(x) => {
-            let numbers = [0, own];
-            put_numbers(answer, &numbers);
-            x.number()
-        }
-    }
+    let numbers = [a.length(), a.index_after(own), a.dropped()];
+    put_numbers(answer, &numbers);
+    a.number()
 }
 
 // Starts the region's ring: both indexes zero, then the packet with the start content. There is no own index before it.

@@ -4,13 +4,14 @@ use mathlib.Core.List.{List, [], _∷_}
 use lib.ListN.{length, getD}
 use Rattle.blocks.specs.Tables.{freeBlocks}
 use Rattle.icbmsg.specs.Regions.{blockCount}
-use Rattle.icbmsg.specs.Outcome.{Given, nothing, aLength, aRun, control, delivery, Outcome}
+use Rattle.icbmsg.specs.Outcome.{Given, nothing, aLength, dropped, aRun, control, delivery, Outcome}
 use Rattle.icbmsg.specs.End.{End}
 
--- the values of what is given, and a number for it
+-- the values of what is given, and a number for it: what was dropped stands behind the length 0
 abbrev pub valuesOf : Given → List ℕ
 valuesOf nothing = []
 valuesOf (aLength k) = k ∷ []
+valuesOf (dropped n) = 0 ∷ n ∷ []
 valuesOf (aRun s n) = s ∷ n ∷ []
 valuesOf (control k a b) = k ∷ a ∷ b ∷ []
 valuesOf (delivery a b k) = a ∷ b ∷ k ∷ []
@@ -18,6 +19,7 @@ valuesOf (delivery a b k) = a ∷ b ∷ k ∷ []
 abbrev pub givenNumber : Given → ℕ
 givenNumber nothing = 0
 givenNumber (aLength k) = 1
+givenNumber (dropped n) = 1
 givenNumber (aRun s n) = 2
 givenNumber (control k a b) = 3
 givenNumber (delivery a b k) = 4

@@ -33,12 +33,13 @@ pub fn answered(a: Answer) -> [u32; 9]
     }
 }
 
-// Of start, push and pull: the length, 0 on a refusal.
+// Of start, push and pull: the length, 0 on a refusal, and behind it what was dropped.
 pub fn ring_answered(a: PacketAnswer) -> [u32; 9]
     ensures { λ r. ⌜ r ≡ reply (packetNumber a) (packetGiven a) 0 0 ⌝ }
 {
     match a {
         PacketAnswer::Length(k) => [0, 1, k, 0, 0, 0, 0, 0, 1],
+        PacketAnswer::Dropped(n) => [9, 2, 0, n, 0, 0, 0, 0, 1],
         PacketAnswer::Refused(x) => [x.number(), 1, 0, 0, 0, 0, 0, 0, 1],
     }
 }

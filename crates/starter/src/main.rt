@@ -119,11 +119,20 @@ fn turn(core: Core, tx: &mut [u8], rx: &mut [u8]) -> Core {
     let answer = pulled.answer;
     match answer {
         PacketAnswer::Refused(x) => refused(end, by(end).text(b"pull"), x),
+        PacketAnswer::Dropped(n) => dropped(end, n),
         PacketAnswer::Length(k) => {
             let k = wire::least(k as usize, 16);
             arrive(end, tx, rx, &packet[0..k])
         }
     }
+}
+
+// A packet was broken, and it is gone with all that was behind it. What the other core pushes next is pulled again.
+fn dropped(end: End, bytes: u32) -> Core {
+    by(end).text(b"a broken packet, dropped ")
+        .bytes(bytes)
+        .print();
+    Core { end, going: true }
 }
 
 // The first packet is the other core's start. Each one after it is a control message, and may announce a message.
@@ -176,7 +185,7 @@ fn ring_called(mut end: End, call: &[u8], called: RingCalled) -> Core {
     let answer = called.answer;
     match answer {
         PacketAnswer::Refused(x) => refused(end, by(end).text(call), x),
-        PacketAnswer::Length(_) => Core { end, going: true },
+        _ => Core { end, going: true },
     }
 }
 

@@ -117,8 +117,8 @@ pub fn is_start(content: &[u8]) -> u32 {
 }
 
 /// Puts the content on the ring in the raw region. Returns 0 or the refusal
-/// number, and writes length and own index after the call (to a shorter answer,
-/// the first of them) to `answer`.
+/// number, and writes length, own index after the call and dropped bytes (to a
+/// shorter answer, the first of them) to `answer`.
 pub fn push(
     request: &Request,
     own_index: u32,
@@ -147,7 +147,7 @@ pub fn push(
 }
 
 /// Takes a packet off the ring in the raw region, into the buffer. Returns and
-/// answers as a push does.
+/// answers as a push does; with 9 alone bytes are dropped.
 pub fn pull(
     request: &Request,
     own_index: u32,

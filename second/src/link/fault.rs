@@ -103,6 +103,34 @@ faults! {
     /// A refused pull gives nothing, not the length 0
     PullGivesNothing,
 
+    // Broken packets.
+    /// 9: nothing is dropped
+    NothingDropped,
+    /// 9: the read index moves on by the length that the packet claims
+    BrokenPacketSkipped,
+    /// 9: only the packet's own 4 bytes are dropped
+    BrokenHeaderSkipped,
+    /// 9: pull goes on where the next packet could begin
+    NextPacketSought,
+    /// 9: the new read index is not written out
+    DropUnwritten,
+    /// 9: the new read index is written out, but not kept
+    DropKeepsOwnIndex,
+    /// 9: both indexes are set to 0
+    DropClearsIndexes,
+    /// 9: content is copied
+    BrokenContentCopied,
+    /// 9: the answer says that 0 bytes were dropped
+    DroppedUnsaid,
+    /// 9: the dropped bytes are counted without the wrap
+    DroppedUnwrapped,
+    /// 9: the dropped bytes are given as the length
+    DroppedIsLength,
+    /// 7: what is unread is dropped, too
+    BadIndexDrops,
+    /// 6, 7 and 8: a pull says that 0 bytes were dropped
+    EveryPullDrops,
+
     // Control messages.
     /// 12: a control message of two bytes is accepted
     TwoBytesAccepted,

@@ -3,6 +3,8 @@
 //! The writer keeps the write index and the reader the read index. A caller
 //! hands its own one in, so that only the partner's is read from memory.
 
+use std::array;
+
 use crate::link::fault::{planted, unless, Fault};
 use crate::link::layout::{lay_out, Request};
 use crate::link::refusal::Refusal;
@@ -27,6 +29,30 @@ pub struct Moved {
     pub length: u32,
     /// The caller's own index from now on.
     pub own_index: u32,
+}
+
+/// Why a pull is refused, and what it dropped.
+pub struct RefusedPull {
+    pub refusal: Refusal,
+    /// With 9 alone; any other refusal changes nothing.
+    pub dropped: Option<Dropped>,
+}
+
+/// What was unread when a broken packet was met.
+#[derive(Clone, Copy)]
+pub struct Dropped {
+    pub bytes: u32,
+    /// The reader's own index from now on.
+    pub own_index: u32,
+}
+
+impl From<Refusal> for RefusedPull {
+    fn from(refusal: Refusal) -> Self {
+        RefusedPull {
+            refusal,
+            dropped: None,
+        }
+    }
 }
 
 /// Empties the ring and puts the start content on it.
@@ -84,42 +110,46 @@ pub fn push(
 }
 
 /// Takes the packet at the reader's index off the ring. The buffer gets as
-/// much of its content as fits.
+/// much of its content as fits. With a broken packet goes all that is unread.
 pub fn pull(
     request: &Request,
     own_index: u32,
     region: &mut [u8],
     buffer: &mut [u8],
-) -> Result<Moved, Refusal> {
+) -> Result<Moved, RefusedPull> {
     let mut ring = Ring::find(request, region)?;
     let in_memory = u32::from_le_bytes(*ring.read_index);
     let own_index = unless(Fault::OwnIndexRead, own_index, in_memory);
     let read = ring.in_rule(own_index).ok_or(Refusal::WrongRegion)?;
-    let write = ring
-        .in_rule(u32::from_le_bytes(*ring.write_index))
-        .ok_or(Refusal::BadIndex)?;
+    let write = u32::from_le_bytes(*ring.write_index);
+    let Some(write) = ring.in_rule(write) else {
+        let wrong = planted(Fault::BadIndexDrops);
+        return Err(RefusedPull {
+            refusal: Refusal::BadIndex,
+            dropped: wrong.then(|| ring.go_on(read, write as usize)),
+        });
+    };
     let unread = ring.distance(read, write);
     if unread == 0 && !planted(Fault::EmptyIsBroken) {
-        return Err(Refusal::Empty);
+        return Err(Refusal::Empty.into());
     }
-    // Data and index are multiples of 4, so these two bytes do not wrap.
-    let length = u16::from_be_bytes([ring.data[read], ring.data[read + 1]]);
+    let [high, low, reserved @ ..] = ring.packet_header(read);
+    let length = u16::from_be_bytes([high, low]);
     let packet_length = packet_length(usize::from(length));
     let content_alone = usize::from(length);
     let counted = unless(Fault::PacketHeaderUncounted, packet_length, content_alone);
-    let reserved = &ring.data[read + 2..read + PACKET_HEADER];
     let reserved_read = planted(Fault::ReservedBytesRead) && reserved != [0, 0];
     if counted > unread || reserved_read {
-        return Err(Refusal::BrokenPacket);
+        if planted(Fault::BrokenContentCopied) {
+            ring.copy_content(read, length, buffer);
+        }
+        return Err(RefusedPull {
+            refusal: Refusal::BrokenPacket,
+            dropped: ring.drop_unread(read, write, packet_length),
+        });
     }
 
-    let content = ring
-        .once_around(read)
-        .skip(PACKET_HEADER)
-        .take(usize::from(length));
-    for (place, byte) in buffer.iter_mut().zip(content) {
-        *place = *byte;
-    }
+    ring.copy_content(read, length, buffer);
     let own_index = past(read, packet_length, ring.data.len());
     *ring.read_index = own_index.to_le_bytes();
     let copied = usize::from(length).min(buffer.len()) as u16;
@@ -196,6 +226,64 @@ impl<'a> Ring<'a> {
     /// Bytes from the read index on to the write index.
     fn distance(&self, read: usize, write: usize) -> usize {
         (self.data.len() + write - read) % self.data.len()
+    }
+
+    /// The bytes of a packet before its content.
+    fn packet_header(&self, index: usize) -> [u8; PACKET_HEADER] {
+        array::from_fn(|at| self.data[(index + at) % self.data.len()])
+    }
+
+    /// Copies as much of a packet's content as the buffer takes.
+    fn copy_content(&mut self, packet: usize, length: u16, buffer: &mut [u8]) {
+        let content = self.once_around(packet).skip(PACKET_HEADER);
+        let content = content.take(usize::from(length));
+        for (place, byte) in buffer.iter_mut().zip(content) {
+            *place = *byte;
+        }
+    }
+
+    /// Goes on at the writer's index: behind a broken packet nobody knows where
+    /// another one begins.
+    fn drop_unread(&mut self, read: usize, write: usize, packet_length: usize) -> Option<Dropped> {
+        let past = |bytes| past(read, bytes, self.data.len()) as usize;
+        let to = unless(Fault::BrokenPacketSkipped, write, past(packet_length));
+        let to = unless(Fault::BrokenHeaderSkipped, to, past(PACKET_HEADER));
+        let to = unless(Fault::NextPacketSought, to, self.next_packet(read, write));
+        let to = unless(Fault::DropClearsIndexes, to, 0);
+        if planted(Fault::DropClearsIndexes) {
+            *self.write_index = [0; UNIT];
+        }
+        (!planted(Fault::NothingDropped)).then(|| self.go_on(read, to))
+    }
+
+    /// Writes out where the reader goes on, and gives what it drops by that.
+    fn go_on(&mut self, read: usize, to: usize) -> Dropped {
+        let own_index = to as u32;
+        if !planted(Fault::DropUnwritten) {
+            *self.read_index = own_index.to_le_bytes();
+        }
+        let bytes = self.distance(read, to) as u32;
+        let unwrapped = own_index.wrapping_sub(read as u32);
+        let bytes = unless(Fault::DroppedUnwrapped, bytes, unwrapped);
+        Dropped {
+            bytes: unless(Fault::DroppedUnsaid, bytes, 0),
+            own_index: unless(Fault::DropKeepsOwnIndex, own_index, read as u32),
+        }
+    }
+
+    /// The first place behind a broken packet's header where one could begin:
+    /// what a planted fault looks for.
+    fn next_packet(&self, read: usize, write: usize) -> usize {
+        let unread = self.distance(read, write);
+        for dropped in (UNIT..unread).step_by(UNIT) {
+            let at = past(read, dropped, self.data.len()) as usize;
+            let [high, low, ..] = self.packet_header(at);
+            let length = u16::from_be_bytes([high, low]);
+            if packet_length(length.into()) <= unread - dropped {
+                return at;
+            }
+        }
+        write
     }
 
     /// Every byte of the data, from an index to the end and then from the

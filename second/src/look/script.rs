@@ -118,6 +118,10 @@ fn given(row: &Row) -> String {
     match (row.given(), row.values()) {
         (0, []) => String::new(),
         (1, [length]) => format!("; length {length}"),
+        (1, [length, dropped]) => {
+            let dropped = counted(*dropped as usize, "byte");
+            format!("; length {length}, {dropped} dropped")
+        }
         (2, [start, count]) => format!("; start {start}, count {count}"),
         (3, values @ [_, _, _]) => match control_bytes(values) {
             Some((bytes, control)) => {

@@ -1,37 +1,30 @@
-use Prim.Native.Nat.{_-_, _≤_}
+use Prim.Native.Nat.{_-_, _≤_, min}
 use mathlib.Core.Path.{_≡_, refl, _∙_}
+use native.Mathlib.Nat.{min-comm}
 use native.Mathlib.Omega.{arith}
-use lib.ListN.{length, length-set}
+use lib.ListN.{length}
 use borrow.Author.Needs.{needs}
-use Rattle.wire.specs.Bytes.{bytes, writes, wrote}
-use Rattle.panel.proofs.Answers.{afterFirst, one-more, all-that-fit}
+use Rattle.panel.proofs.Answers.{afterFirst, none-yet, one-more-that-fits, all-that-fit}
 use Rattle.panel.proofs.put_numbers.Statement.{statement}
 use Rattle.panel.proofs.put_numbers.Tie as tie
 
 abbrev Inv-loop : tie.InvT-loop
-Inv-loop answer₀ numbers n i₀ answer i = (i ≤ n) × ((answer ≡ afterFirst answer₀ numbers i) × (length answer ≡ length answer₀))
+Inv-loop answer₀ numbers i₀ answer i = (i ≤ length numbers) × ((answer ≡ afterFirst answer₀ numbers (min i (length answer₀))) × (length answer ≡ length answer₀))
 
 abbrev μ-loop : tie.MeasureT-loop
-μ-loop answer₀ numbers n i₀ answer i = n - i
-
-least-requires : tie.Need-least-requires Inv-loop μ-loop
-least-requires c κs = search needs
+μ-loop answer₀ numbers i₀ answer i = length numbers - i
 
 loop-holds : tie.Need-loop-holds Inv-loop μ-loop
-unfolding wrote writes bytes
-loop-holds c = (omega arith, (refl, refl))
+loop-holds c = (omega arith, (none-yet _ _, refl))
 
-mul-answer : tie.Need-mul-answer Inv-loop μ-loop
-mul-answer c = omega arith
+mul-put-at : tie.Need-mul-put-at Inv-loop μ-loop
+mul-put-at c = omega arith
 
-shared-slice-read-answer : tie.Need-shared-slice-read-answer Inv-loop μ-loop
-shared-slice-read-answer c = omega arith
+shared-slice-read-put-at : tie.Need-shared-slice-read-put-at Inv-loop μ-loop
+shared-slice-read-put-at c = omega arith
 
-mul-answer-2 : tie.Need-mul-answer-2 Inv-loop μ-loop
-mul-answer-2 c = omega arith
-
-slice-write-answer : tie.Need-slice-write-answer Inv-loop μ-loop
-slice-write-answer c = omega arith
+put-at-requires : tie.Need-put-at-requires Inv-loop μ-loop
+put-at-requires c κs = search needs
 
 add-i : tie.Need-add-i Inv-loop μ-loop
 add-i c = omega arith
@@ -40,7 +33,10 @@ loop-less : tie.Need-loop-less Inv-loop μ-loop
 loop-less c = omega arith
 
 loop-again : tie.Need-loop-again Inv-loop μ-loop
-loop-again c = (omega arith, (rw (c .before .before .loop .inv .1 .0) (one-more _ _ _), simp length-set (omega arith)))
+loop-again c =
+    let p = c .before .before in
+    let l = p .before .before .before .before in
+    (omega arith, (p .put-at .ensures ∙ rw (l .loop .inv .1 .0) (one-more-that-fits _ _ _), omega arith))
 
 same-length : tie.Need-same-length Inv-loop μ-loop
 same-length c = omega arith
@@ -48,7 +44,8 @@ same-length c = omega arith
 returns : tie.Need-returns Inv-loop μ-loop
 returns c =
     let l = c .before in
-    l .loop .inv .1 .0 ∙ all-that-fit _ _ _ (omega (arith, l .before .least .ensures .0))
+    let all : l .loop .i ≡ length (l .before .before .before .args .numbers .now) = omega arith in
+    l .loop .inv .1 .0 ∙ all-that-fit _ _ _ (rw all (min-comm _ _))
 
 pub put-numbers-spec : {M : Type 1} → statement M
 put-numbers-spec =
@@ -56,12 +53,10 @@ put-numbers-spec =
     (tie.spec
     Inv-loop
     μ-loop
-    least-requires
     loop-holds
-    mul-answer
-    shared-slice-read-answer
-    mul-answer-2
-    slice-write-answer
+    mul-put-at
+    shared-slice-read-put-at
+    put-at-requires
     add-i
     loop-less
     loop-again

@@ -9,8 +9,9 @@ use crate::compare::tally::Tally;
 use crate::compare::Settings;
 use crate::link::end::{Answer, End, Endpoint, Name, Opening, Outcome, DATA};
 use crate::link::layout::Request;
-use crate::link::ring;
-use crate::look::region::{show, Dump};
+use crate::link::refusal::Refusal;
+use crate::link::ring::{self, packet_length};
+use crate::look::region::{show, Dump, Packet};
 
 /// Lines and columns of what is shown at most.
 const MOST_LINES: usize = 54;
@@ -149,36 +150,42 @@ fn control(random: &mut Random, request: &Request) -> Vec<u8> {
     content
 }
 
-/// The packets must be those that an end pulls from the shared read index on.
+/// The packets must be those that an end pulls from the shared read index on,
+/// and what it drops behind them all that is left.
 fn compare_pulls(group: &mut Group, tally: &mut Tally, opening: &Opening, dump: &Dump) {
     let mut bytes = dump.bytes.to_vec();
     let mut buffer = vec![0; bytes.len()];
     let (mut end, _) = End::open(opening);
-    let mut pull = |read_index: Option<u32>| {
-        let outcome = end.call(|open| {
-            open.read_index = read_index.unwrap_or(open.read_index);
+    let mut read_index = Some(dump.read_index);
+    let mut pull = || {
+        let outcome = end.pull_call(|open| {
+            open.read_index = read_index.take().unwrap_or(open.read_index);
             open.pull(&mut bytes, &mut buffer)
         });
-        let length = outcome.answer.given.values().first().copied();
-        (
-            outcome.number,
-            buffer[..length.unwrap_or(0) as usize].to_vec(),
-        )
+        let values = outcome.answer.given.values();
+        let [length, dropped] = [0, 1].map(|at| values.get(at).copied().unwrap_or(0) as usize);
+        (outcome.number, dropped, buffer[..length].to_vec())
     };
-    let mut read_index = Some(dump.read_index);
-    for packet in &dump.packets {
+    let mut compare = |said: (u32, usize, Vec<u8>)| {
         group.input();
-        let pulled = pull(read_index.take());
-        if pulled != (0, packet.content.clone()) {
-            group.mismatch(|| format!("said {:02x?}, pulled {pulled:02x?}", packet.content));
+        let pulled = pull();
+        if pulled != said {
+            group.mismatch(|| format!("said {said:02x?}, pulled {pulled:02x?}"));
         }
+    };
+    let mut left = dump.unread().unwrap_or(0);
+    for Packet { content, .. } in &dump.packets {
+        compare((0, 0, content.clone()));
+        left -= packet_length(content.len());
     }
-    let (stop, _) = pull(read_index.take());
-    group.input();
-    tally.count(stop);
-    if stop != dump.stop as u32 {
-        group.mismatch(|| format!("said {}, the pull is refused with {stop}", dump.stop as u32));
-    }
+    let stop = dump.stop.refusal;
+    tally.count(stop as u32);
+    compare((stop as u32, left, Vec::new()));
+    let next = match stop {
+        Refusal::BrokenPacket => Refusal::Empty,
+        other => other,
+    };
+    compare((next as u32, 0, Vec::new()));
 }
 
 /// The number of an arrival at a follower that has nothing but a bound endpoint

@@ -219,9 +219,10 @@ fn packets(group: &mut Group) {
         group,
         "a packet longer than the unread bytes",
         &[
-            "ring 28 bytes unread: 1 packet, then a broken one; contents of up to 440 bytes fit",
+            "ring 28 bytes unread: 1 packet, then a broken one, whose pull drops 8 bytes; \
+             contents of up to 440 bytes fit",
             "packet at 20: a pull is refused with 9: the packet is longer than the unread bytes \
-             (00 05 00 00: 5 bytes of content, 8 unread)",
+             (00 05 00 00: 5 bytes of content, 8 unread, and the pull drops them)",
         ],
     );
     writer.poke(DATA + 20, u32::from_le_bytes([0x00, 0x03, 0x12, 0]));

@@ -3,7 +3,7 @@
 use super::says;
 use crate::compare::report::Group;
 use crate::compare::traffic::{in_script_main, Case, Opponent};
-use crate::link::end::Opening;
+use crate::link::end::{Opening, Slice};
 use crate::link::script::{Record, OPENING_BYTES, ROW_BYTES};
 
 fn script(records: &[Record]) -> Vec<u8> {
@@ -102,6 +102,13 @@ pub fn words(group: &mut Group) {
         Record::Arrival(&[]),
         Record::Push(b"Em1l1K0rn3li4"),
         Record::Pull { buffer_length: 3 },
+        // The partner's index, and the length of a packet.
+        Record::Write {
+            slice: Slice::Receive,
+            offset: 32,
+            bytes: &[8, 0, 0, 0, 0, 5],
+        },
+        Record::Pull { buffer_length: 3 },
     ];
     let case = in_script_main(script(&records));
     case_says(
@@ -130,7 +137,12 @@ pub fn words(group: &mut Group) {
             "9 byte 104 push 45 6d 31 6c 31 4b 30 72 6e 33 6c 69 34 (start packet)",
             "10 byte 120 pull into 3 bytes",
             "refused with 8: the ring is empty; length 0; free blocks 0 and 32, sums 50467 0 0",
-            "ends at byte 125, with the script",
+            "11 byte 125 write receive bytes at 32: 08 00 00 00 00 05",
+            "accepted; free blocks 0 and 32, sums 50467 454 0",
+            "12 byte 138 pull into 3 bytes",
+            "refused with 9: the packet is longer than the unread bytes; length 0, 8 bytes dropped; \
+             free blocks 0 and 32, sums 50467 462 0",
+            "ends at byte 143, with the script",
         ],
     );
 }

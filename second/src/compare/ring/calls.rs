@@ -7,11 +7,11 @@ use crate::compare::report::Group;
 use crate::compare::tally::Tally;
 use crate::compare::twin::{Twin, PATTERN};
 use crate::link::layout::Request;
-use crate::link::refusal::{outcome_name, Refusal};
-use crate::link::ring::{self, packet_length, past, Moved, Ring};
+use crate::link::refusal::outcome_name;
+use crate::link::ring::{self, packet_length, past, Moved, RefusedPull, Ring};
 
-/// Numbers in a whole answer: length, own index after the call.
-pub const ANSWER: usize = 2;
+/// Numbers in a whole answer: length, own index after the call, dropped bytes.
+pub const ANSWER: usize = 3;
 
 /// What a call is asked with, but for the lent memory. A start has no own index
 /// before it: 0.
@@ -31,6 +31,8 @@ pub struct Outcome {
     length: u32,
     /// After the call.
     pub own_index: u32,
+    /// Unread bytes that are gone.
+    dropped: u32,
 }
 
 impl Outcome {
@@ -41,6 +43,7 @@ impl Outcome {
             refusal: 0,
             length: content_length as u32,
             own_index: past(own_index as usize, packet_length, data_length),
+            dropped: 0,
         }
     }
 
@@ -49,23 +52,41 @@ impl Outcome {
             refusal,
             length: 0,
             own_index,
+            dropped: 0,
         }
     }
 
-    fn second(own_index: u32, result: Result<Moved, Refusal>) -> Self {
-        match result {
-            Ok(moved) => Outcome {
+    /// By a broken packet, with so many unread bytes up to the partner's index.
+    pub fn broken(partner_index: u32, unread: usize) -> Self {
+        Outcome {
+            dropped: unread as u32,
+            ..Outcome::refused(9, partner_index)
+        }
+    }
+
+    fn second(own_index: u32, result: Result<Moved, impl Into<RefusedPull>>) -> Self {
+        match result.map_err(Into::into) {
+            Ok(Moved { length, own_index }) => Outcome {
                 refusal: 0,
-                length: moved.length,
-                own_index: moved.own_index,
+                length,
+                own_index,
+                dropped: 0,
             },
-            Err(refusal) => Outcome::refused(refusal as u32, own_index),
+            Err(RefusedPull { refusal, dropped }) => {
+                let refusal = refusal as u32;
+                let own_index = dropped.map_or(own_index, |dropped| dropped.own_index);
+                Outcome {
+                    dropped: dropped.map_or(0, |dropped| dropped.bytes),
+                    ..Outcome::refused(refusal, own_index)
+                }
+            }
         }
     }
 
     /// Writes as much of the answer as there is space for.
     fn write(&self, answer: &mut [u32]) {
-        for (element, value) in answer.iter_mut().zip([self.length, self.own_index]) {
+        let values: [u32; ANSWER] = [self.length, self.own_index, self.dropped];
+        for (element, value) in answer.iter_mut().zip(values) {
             *element = value;
         }
     }
@@ -75,10 +96,11 @@ impl Display for Outcome {
     fn fmt(&self, f: &mut Formatter) -> fmt::Result {
         write!(
             f,
-            "{}, length {}, own index {}",
+            "{}, length {}, own index {}, {} bytes dropped",
             outcome_name(self.refusal),
             self.length,
-            self.own_index
+            self.own_index,
+            self.dropped
         )
     }
 }

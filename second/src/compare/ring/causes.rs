@@ -58,25 +58,42 @@ pub const CHOICES: Range<Choice> = 0..1 << PUSH_CAUSES.len();
 /// The same of a start.
 pub const START_CHOICES: Range<Choice> = 0..1 << START_CAUSES.len();
 
+/// How a call is to be asked.
+#[derive(Clone, Copy)]
+pub struct Asked {
+    pub choice: Choice,
+    pub answer_length: usize,
+}
+
+impl Asked {
+    /// With an answer of any length.
+    pub fn any(random: &mut Random, choice: Choice) -> Self {
+        Asked {
+            choice,
+            answer_length: answer_length(random),
+        }
+    }
+}
+
 /// A start with the chosen causes.
-pub fn start(calls: &mut Calls, random: &mut Random, pool: &Pool, place: Place, choice: Choice) {
+pub fn start(calls: &mut Calls, random: &mut Random, pool: &Pool, place: Place, asked: Asked) {
     // A start is handed no index, and is to be at 0.
     let mut plan = Plan::new(place, 0, 0, 0);
     plan.content_length = START_LENGTH;
-    let call = plan.spoil(&START_CAUSES, choice, random);
+    let call = plan.spoil(&START_CAUSES, asked, random);
     let mut region = plan.region(random, pool, |_| {});
     calls.start(&call, &mut region);
 }
 
 /// A push with the chosen causes, on a ring of less than 65,536 data bytes.
-pub fn push(calls: &mut Calls, random: &mut Random, pool: &Pool, place: Place, choice: Choice) {
+pub fn push(calls: &mut Calls, random: &mut Random, pool: &Pool, place: Place, asked: Asked) {
     let used = multiple(random, place.data_length - 2 * UNIT);
     let write = place.index(random);
     let read = past(write as usize, place.data_length - used, place.data_length);
     let mut plan = Plan::new(place, write, read, used);
     plan.content_length = up_to(random, plan.longest_to_push());
 
-    let call = plan.spoil(&PUSH_CAUSES, choice, random);
+    let call = plan.spoil(&PUSH_CAUSES, asked, random);
     let stale = place.index(random);
     let mut region = plan.region(random, pool, |ring| {
         *ring.read_index = plan.partner_index.to_le_bytes();
@@ -87,14 +104,14 @@ pub fn push(calls: &mut Calls, random: &mut Random, pool: &Pool, place: Place, c
 }
 
 /// A pull with the chosen causes.
-pub fn pull(calls: &mut Calls, random: &mut Random, pool: &Pool, place: Place, choice: Choice) {
+pub fn pull(calls: &mut Calls, random: &mut Random, pool: &Pool, place: Place, asked: Asked) {
     let unread = UNIT + multiple(random, place.data_length - 2 * UNIT);
     let read = place.index(random);
     let write = past(read as usize, unread, place.data_length);
     let mut plan = Plan::new(place, read, write, unread);
     plan.content_length = up_to(random, plan.longest_to_pull());
 
-    let call = plan.spoil(&PULL_CAUSES, choice, random);
+    let call = plan.spoil(&PULL_CAUSES, asked, random);
     let stale = place.index(random);
     let mut region = plan.region(random, pool, |ring| {
         *ring.read_index = stale.to_le_bytes();
@@ -157,24 +174,25 @@ impl Plan {
     }
 
     /// Brings the chosen causes in, and states what must come of the call.
-    fn spoil(&mut self, causes: &Causes, choice: Choice, random: &mut Random) -> Call {
+    fn spoil(&mut self, causes: &Causes, asked: Asked, random: &mut Random) -> Call {
         // Backwards: of two causes in one number, that of the first check has
         // the last word, and so has its refusal.
         let mut refusal = None;
         for (bit, (number, cause)) in causes.iter().enumerate().rev() {
-            if choice >> bit & 1 == 1 {
+            if asked.choice >> bit & 1 == 1 {
                 cause(self, random);
                 refusal = Some(*number);
             }
         }
         let stated = match refusal {
+            Some(9) => Outcome::broken(self.partner_index, self.used),
             Some(number) => Outcome::refused(number, self.own_index),
             None => Outcome::accepted(self.content_length, self.start, self.place.data_length),
         };
         Call {
             request: self.request,
             own_index: self.own_index,
-            answer_length: answer_length(random),
+            answer_length: asked.answer_length,
             stated: Some(stated),
         }
     }
@@ -280,7 +298,7 @@ fn broken_packet(plan: &mut Plan, random: &mut Random) {
 
 /// A length that a content can have, though more than fits. Near the longest
 /// one, the length of its packet has over 16 bits.
-fn longer_than(random: &mut Random, longest: usize) -> usize {
+pub fn longer_than(random: &mut Random, longest: usize) -> usize {
     let length = match random.below(4) {
         0 => longest + 1,
         1 => longest + random.between(1, 9) as usize,

@@ -1,5 +1,6 @@
 //! The comparison of the two rings.
 
+mod broken;
 mod calls;
 mod causes;
 pub mod hostile;
@@ -7,14 +8,17 @@ pub mod inputs;
 mod start;
 mod two_sides;
 
+use std::ops::Range;
+
 use crate::compare::layout::inputs::Numbers;
 use crate::compare::random::{Pool, Random};
 use crate::compare::report::Report;
 use crate::compare::Settings;
 use crate::link::layout::{Request, LARGEST_REGION};
 use crate::link::ring::UNIT;
-use calls::{Calls, Tallies};
-use causes::CHOICES;
+use broken::{broken_packets, pull_broken};
+use calls::{Calls, Tallies, ANSWER};
+use causes::{Asked, Choice, CHOICES, START_CHOICES};
 use hostile::{hostile_partner, openings};
 use inputs::{buffer_length, content_length, Place, SMALL_REGION};
 use start::{bench_start, hostile_starts, start_causes, start_contents, Parts};
@@ -23,7 +27,7 @@ use two_sides::TwoSides;
 /// A group with its own number of calls.
 type Fixed = fn(&mut Calls, &mut Random, &Pool);
 
-const FIXED: [(&str, Fixed); 10] = [
+const FIXED: [(&str, Fixed); 12] = [
     ("ring bench: data, address 2, block 5", bench_packet),
     (
         "ring bench: 64 data bytes take seven packets",
@@ -40,12 +44,17 @@ const FIXED: [(&str, Fixed); 10] = [
         "ring: contents asked whether they are a start",
         start_contents,
     ),
+    (
+        "ring: broken packets, all unread bytes dropped",
+        broken_packets,
+    ),
+    ("ring: answers of 0 to 5 elements", answers),
 ];
 
 /// A group that makes as many calls as it is told.
 type Mixture = fn(&mut Calls, &mut Random, &Pool, u64);
 
-const MIXTURES: [(&str, Mixture); 7] = [
+const MIXTURES: [(&str, Mixture); 8] = [
     ("order of packets, nearly full rings", full_traffic),
     ("two sides, small regions", small_traffic),
     ("two sides, regions of every length", large_traffic),
@@ -53,6 +62,7 @@ const MIXTURES: [(&str, Mixture); 7] = [
     ("hostile caller, causes mixed", mixed_causes),
     ("hostile caller, openings of every kind", openings),
     ("starts in regions with any bytes", hostile_starts),
+    ("two sides, packets that break", broken_traffic),
 ];
 
 /// Content and packet of the bench: data, address 2, block 5.
@@ -201,17 +211,21 @@ fn buffers(calls: &mut Calls, random: &mut Random, pool: &Pool) {
     }
 }
 
-/// In rings where the longest content fits and where it does not.
-fn longest_contents(calls: &mut Calls, random: &mut Random, pool: &Pool) {
+/// Rings in which the longest content fits, or nearly.
+fn large_places() -> [Place; 4] {
     // Only the most blocks leave that much data, at the largest alignment.
     let numbers = Numbers {
         local_blocks: 256,
         remote_blocks: 256,
         alignment: 256,
     };
-    let large = [65_276, 65_532, 65_788, 69_628]
-        .map(|length| Place::with_data(numbers, length).expect("an accepted region"));
-    for place in Place::few_blocks(32).chain(large) {
+    [65_276, 65_532, 65_788, 69_628]
+        .map(|length| Place::with_data(numbers, length).expect("an accepted region"))
+}
+
+/// In rings where the longest content fits and where it does not.
+fn longest_contents(calls: &mut Calls, random: &mut Random, pool: &Pool) {
+    for place in Place::few_blocks(32).chain(large_places()) {
         let last = place.data_length as u32 - 4;
         for start in [0, 4, last / 8 * 4, last] {
             for length in 65_520..=65_540 {
@@ -222,10 +236,37 @@ fn longest_contents(calls: &mut Calls, random: &mut Random, pool: &Pool) {
     }
 }
 
+/// Each outcome of each call, in answers without space for all numbers and in
+/// longer ones.
+fn answers(calls: &mut Calls, random: &mut Random, pool: &Pool) {
+    for place in Place::small() {
+        for answer_length in 0..=ANSWER + 2 {
+            for asked in one_cause(CHOICES, answer_length) {
+                causes::push(calls, random, pool, place, asked);
+                causes::pull(calls, random, pool, place, asked);
+            }
+            for asked in one_cause(START_CHOICES, answer_length) {
+                causes::start(calls, random, pool, place, asked);
+            }
+        }
+    }
+}
+
+/// Of these choices those with one cause or none.
+fn one_cause(choices: Range<Choice>, answer_length: usize) -> impl Iterator<Item = Asked> {
+    choices
+        .filter(|choice| choice.count_ones() <= 1)
+        .map(move |choice| Asked {
+            choice,
+            answer_length,
+        })
+}
+
 fn push_causes(calls: &mut Calls, random: &mut Random, pool: &Pool) {
     for place in Place::small() {
         for choice in CHOICES {
-            causes::push(calls, random, pool, place, choice);
+            let asked = Asked::any(random, choice);
+            causes::push(calls, random, pool, place, asked);
         }
     }
 }
@@ -233,7 +274,8 @@ fn push_causes(calls: &mut Calls, random: &mut Random, pool: &Pool) {
 fn pull_causes(calls: &mut Calls, random: &mut Random, pool: &Pool) {
     for place in Place::small() {
         for choice in CHOICES {
-            causes::pull(calls, random, pool, place, choice);
+            let asked = Asked::any(random, choice);
+            causes::pull(calls, random, pool, place, asked);
         }
     }
 }
@@ -244,19 +286,32 @@ fn full_traffic(calls: &mut Calls, random: &mut Random, pool: &Pool, share: u64)
         .step_by(UNIT)
         .flat_map(Place::few_blocks)
         .collect();
-    traffic(calls, random, pool, share, |random| random.pick(&places));
+    let any_of_them = |random: &mut Random| random.pick(&places);
+    traffic(calls, random, pool, share, any_of_them, never);
 }
 
 fn small_traffic(calls: &mut Calls, random: &mut Random, pool: &Pool, share: u64) {
-    traffic(calls, random, pool, share, |random| {
-        Place::any(random, SMALL_REGION)
-    });
+    traffic(calls, random, pool, share, any_small, never);
 }
 
 fn large_traffic(calls: &mut Calls, random: &mut Random, pool: &Pool, share: u64) {
-    traffic(calls, random, pool, share, |random| {
-        Place::any(random, LARGEST_REGION)
+    let any_large = |random: &mut Random| Place::any(random, LARGEST_REGION);
+    traffic(calls, random, pool, share, any_large, never);
+}
+
+/// One pull in four finds its packet broken.
+fn broken_traffic(calls: &mut Calls, random: &mut Random, pool: &Pool, share: u64) {
+    traffic(calls, random, pool, share, any_small, |random| {
+        random.one_in(4)
     });
+}
+
+fn any_small(random: &mut Random) -> Place {
+    Place::any(random, SMALL_REGION)
+}
+
+fn never(_: &mut Random) -> bool {
+    false
 }
 
 /// Two sides that push and pull, in one ring after another.
@@ -266,6 +321,7 @@ fn traffic(
     pool: &Pool,
     share: u64,
     next_place: impl Fn(&mut Random) -> Place,
+    breaks: impl Fn(&mut Random) -> bool,
 ) {
     // Every call compares the whole region, so large ones get fewer calls.
     const BYTES: usize = 1 << 21;
@@ -286,6 +342,8 @@ fn traffic(
             if random.below(8) < pushes {
                 let length = content_length(random, sides.space());
                 sides.push(calls, pool.slice(random, length));
+            } else if sides.packets() > 0 && breaks(random) {
+                pull_broken(calls, random, pool, &mut sides);
             } else {
                 let length = buffer_length(random, place.data_length);
                 sides.pull(calls, pool.slice(random, length));
@@ -300,10 +358,11 @@ fn mixed_causes(calls: &mut Calls, random: &mut Random, pool: &Pool, share: u64)
         let place = Place::any(random, SMALL_REGION);
         // Two causes out of the eight, on average.
         let choice = random.any() & random.any() & (CHOICES.end - 1);
+        let asked = Asked::any(random, choice);
         if random.one_in(2) {
-            causes::push(calls, random, pool, place, choice);
+            causes::push(calls, random, pool, place, asked);
         } else {
-            causes::pull(calls, random, pool, place, choice);
+            causes::pull(calls, random, pool, place, asked);
         }
     }
 }

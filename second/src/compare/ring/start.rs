@@ -1,7 +1,7 @@
 //! Starts, and the question whether a content is that of a start.
 
 use super::calls::{Call, Calls};
-use super::causes::{self, START_CHOICES};
+use super::causes::{self, Asked, START_CHOICES};
 use super::inputs::{answer_length, Place, SMALL_REGION};
 use super::two_sides::TwoSides;
 use crate::compare::layout::inputs::MIXTURES;
@@ -35,7 +35,8 @@ pub fn bench_start(calls: &mut Calls, random: &mut Random, pool: &Pool, bench: (
 pub fn start_causes(calls: &mut Calls, random: &mut Random, pool: &Pool) {
     for place in Place::small() {
         for choice in START_CHOICES {
-            causes::start(calls, random, pool, place, choice);
+            let asked = Asked::any(random, choice);
+            causes::start(calls, random, pool, place, asked);
         }
     }
 }

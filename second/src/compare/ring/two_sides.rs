@@ -61,13 +61,15 @@ impl TwoSides {
         self.queue.len()
     }
 
+    /// Bytes of the packets on the ring.
+    pub fn unread(&self) -> usize {
+        let packets = self.queue.iter();
+        packets.map(|content| packet_length(content.len())).sum()
+    }
+
     /// The longest packet that fits now.
     pub fn space(&self) -> usize {
-        let packets = self
-            .queue
-            .iter()
-            .map(|content| packet_length(content.len()));
-        self.place.data_length - 1 - packets.sum::<usize>()
+        self.place.data_length - 1 - self.unread()
     }
 
     /// Empties the ring; from then on its reader has to stand at 0.
@@ -103,13 +105,42 @@ impl TwoSides {
                 Outcome::accepted(content.len(), self.read_index, self.place.data_length)
             }
         };
+        self.pull_as_stated(calls, stated, before, &expected);
+    }
+
+    /// Pulls when the next packet claims a content that is longer than what is
+    /// unread. All packets are gone, the buffer stays as it was, and so does
+    /// every byte of the region but for the read index.
+    pub fn pull_broken(&mut self, calls: &mut Calls, claimed: usize, before: &[u8]) {
+        let claimed = (claimed as u16).to_be_bytes();
+        for region in self.region.lend() {
+            let packet = &mut self.place.ring(region).data[self.read_index as usize..];
+            packet[..claimed.len()].copy_from_slice(&claimed);
+        }
+        let mut expected = self.region().to_vec();
+        *self.place.ring(&mut expected).read_index = self.write_index.to_le_bytes();
+        let stated = Outcome::broken(self.write_index, self.unread());
+        self.queue.clear();
+
+        self.pull_as_stated(calls, stated, before, before);
+        self.check_region(calls, &expected);
+    }
+
+    /// Pulls into a buffer with these bytes, which holds others then.
+    fn pull_as_stated(
+        &mut self,
+        calls: &mut Calls,
+        stated: Outcome,
+        before: &[u8],
+        expected: &[u8],
+    ) {
         let call = self.call(self.read_index, stated);
         let mut buffer = Twin::new(before);
         self.read_index = calls.pull(&call, &mut self.region, &mut buffer).own_index;
         if buffer.second() != expected {
             calls.group.mismatch(|| {
                 format!(
-                    "{}, own index {}\n  pushed: {expected:02x?}\n  pulled: {:02x?}",
+                    "{}, own index {}\n  expected: {expected:02x?}\n  pulled: {:02x?}",
                     call.request,
                     call.own_index,
                     buffer.second()

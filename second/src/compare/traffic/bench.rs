@@ -3,7 +3,7 @@
 use super::case::{Case, Lengths, Opponent};
 use super::failure;
 use crate::compare::report::Group;
-use crate::link::end::{Given, Opening};
+use crate::link::end::{Given, Opening, Slice};
 use crate::link::script::{Record, Row, ROW_BYTES};
 
 /// A record, the number that must come of it and what must be given.
@@ -15,8 +15,8 @@ struct Bench {
     /// The number of the opening.
     opened: u32,
     steps: &'static [Step],
-    /// Transmit bytes afterwards, from an offset on.
-    transmit: (usize, &'static [u8]),
+    /// Bytes of a slice afterwards, from an offset on.
+    afterwards: (Slice, usize, &'static [u8]),
 }
 
 /// Regions of so many bytes at alignment 4.
@@ -36,11 +36,22 @@ const fn tiny(transmit: [u32; 2], receive: [u32; 2]) -> Opening {
 
 const CONTROL: Record = Record::Push(&[0x00, 0x02, 0x05]);
 
+const PULL: Record = Record::Pull { buffer_length: 16 };
+
+/// What the partner writes.
+const fn receive(offset: u32, bytes: &'static [u8]) -> Record<'static> {
+    Record::Write {
+        slice: Slice::Receive,
+        offset,
+        bytes,
+    }
+}
+
 const fn run(start: u32, count: u32) -> Given {
     Given::Run { start, count }
 }
 
-const BENCHES: [Bench; 6] = [
+const BENCHES: [Bench; 7] = [
     Bench {
         name: "blocks that a message takes",
         opening: Opening::EXAMPLE,
@@ -56,21 +67,25 @@ const BENCHES: [Bench; 6] = [
             (Record::Reserve { k: 0 }, 24, Given::Nothing),
             (Record::Reserve { k: 1533 }, 23, Given::Nothing),
         ],
-        transmit: (0, &[]),
+        afterwards: (Slice::Transmit, 0, &[]),
     },
     Bench {
         name: "binding of `example`",
         opening: Opening::EXAMPLE.swapped(),
         opened: 0,
         steps: &[(Record::Register(b"example"), 0, Given::Control([2, 0, 0]))],
-        transmit: (0x400, b"\x08\0\0\0example\0"),
+        afterwards: (Slice::Transmit, 0x400, b"\x08\0\0\0example\0"),
     },
     Bench {
         name: "packet for data, address 2, block 5",
         opening: Opening::EXAMPLE,
         opened: 0,
         steps: &[(CONTROL, 0, Given::Length(3))],
-        transmit: (36, &[0x00, 0x03, 0x00, 0x00, 0x00, 0x02, 0x05, 0x00]),
+        afterwards: (
+            Slice::Transmit,
+            36,
+            &[0x00, 0x03, 0x00, 0x00, 0x00, 0x02, 0x05, 0x00],
+        ),
     },
     Bench {
         name: "64 data bytes take seven packets",
@@ -86,21 +101,49 @@ const BENCHES: [Bench; 6] = [
             (CONTROL, 0, Given::Length(3)),
             (CONTROL, 10, Given::Length(0)),
         ],
-        transmit: (4, &[56, 0, 0, 0]),
+        afterwards: (Slice::Transmit, 4, &[56, 0, 0, 0]),
+    },
+    Bench {
+        name: "64 data bytes, broken packets",
+        opening: tiny([92, 5], [76, 1]),
+        opened: 0,
+        steps: &[
+            // A content of 3 bytes, then one that claims 13, where 16 bytes are unread.
+            (
+                receive(4, &[24, 0, 0, 0, 0, 3, 0, 0, 1, 0, 0, 0, 0, 13]),
+                0,
+                Given::Nothing,
+            ),
+            (PULL, 0, Given::Length(3)),
+            (PULL, 9, Given::Dropped(16)),
+            (PULL, 8, Given::Length(0)),
+            (receive(32, &[0, 3, 0, 0, 0, 2, 5, 0]), 0, Given::Nothing),
+            (receive(4, &[32]), 0, Given::Nothing),
+            (PULL, 0, Given::Length(3)),
+            // Unread bytes around the end of the data.
+            (receive(40, &[0xFF, 0xFF]), 0, Given::Nothing),
+            (receive(4, &[16]), 0, Given::Nothing),
+            (PULL, 9, Given::Dropped(48)),
+            (receive(4, &[64]), 0, Given::Nothing),
+            (PULL, 7, Given::Length(0)),
+            (receive(4, &[16]), 0, Given::Nothing),
+            (PULL, 8, Given::Length(0)),
+        ],
+        afterwards: (Slice::Receive, 0, &[16, 0, 0, 0, 16, 0, 0, 0, 0, 3]),
     },
     Bench {
         name: "44 bytes, one block",
         opening: tiny([44, 1], [44, 1]),
         opened: 0,
         steps: &[(Record::Room { start: 0 }, 25, Given::Nothing)],
-        transmit: (0, &[]),
+        afterwards: (Slice::Transmit, 0, &[]),
     },
     Bench {
         name: "40 bytes, refused",
         opening: tiny([40, 1], [44, 1]),
         opened: 4,
         steps: &[(Record::Room { start: 0 }, 6, Given::Nothing)],
-        transmit: (0, &[]),
+        afterwards: (Slice::Transmit, 0, &[]),
     },
 ];
 
@@ -113,9 +156,10 @@ pub fn compare(group: &mut Group, opponent: Opponent) {
             group.mismatch(|| failure::describe(bench.name, &case, opponent));
         }
         let rows: [Vec<Row>; 2] = [made.second_rows().collect(), made.other_rows().collect()];
-        for (rows, transmit) in rows.iter().zip(made.transmit()) {
+        let (slice, ..) = bench.afterwards;
+        for (rows, bytes) in rows.iter().zip(made.memory(slice)) {
             group.input();
-            if !bench.holds(rows, transmit) {
+            if !bench.holds(rows, bytes) {
                 group.mismatch(|| {
                     let shown = case.show(&made, opponent);
                     format!("{}: not as stated\n{shown}", bench.name)
@@ -145,14 +189,14 @@ impl Bench {
         }
     }
 
-    fn holds(&self, rows: &[Row], transmit: &[u8]) -> bool {
+    fn holds(&self, rows: &[Row], bytes: &[u8]) -> bool {
         let opened = (self.opened, Given::Nothing);
         let steps = self.steps.iter().map(|&(_, number, given)| (number, given));
         let stated = [opened].into_iter().chain(steps);
         let stated = stated.map(|(number, given)| (number, given.values(), given.number()));
         let rows = rows.iter();
         let made = rows.map(|row| (row.number(), row.values().to_vec(), row.given()));
-        let (offset, bytes) = self.transmit;
-        stated.eq(made) && transmit[offset..].starts_with(bytes)
+        let (_, offset, afterwards) = self.afterwards;
+        stated.eq(made) && bytes[offset..].starts_with(afterwards)
     }
 }

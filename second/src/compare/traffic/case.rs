@@ -2,6 +2,7 @@
 
 use crate::compare::proved;
 use crate::compare::twin::Twin;
+use crate::link::end::Slice;
 use crate::link::fault::{self, Fault};
 use crate::link::script::{self, Memory, Opening, Ran, Record, Row, ROW_BYTES};
 use crate::look;
@@ -138,10 +139,14 @@ impl Made {
         rows(self.out.other(), self.returned[1])
     }
 
-    /// The transmit bytes as the second implementation left them, and as its
-    /// opponent did.
-    pub fn transmit(&self) -> [&[u8]; 2] {
-        [self.transmit.second(), self.transmit.other()]
+    /// A slice as the second implementation left it, and as its opponent did.
+    pub fn memory(&self, slice: Slice) -> [&[u8]; 2] {
+        let twin = match slice {
+            Slice::Transmit => &self.transmit,
+            Slice::Receive => &self.receive,
+            Slice::Buffer => &self.buffer,
+        };
+        [twin.second(), twin.other()]
     }
 
     /// Where the two sides differ, beside the rows.

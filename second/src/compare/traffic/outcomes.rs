@@ -4,62 +4,76 @@ use std::collections::BTreeMap;
 
 use crate::compare::report::Group;
 use crate::compare::tally::Tally;
-use crate::link::end::{given_name, ControlKind};
+use crate::link::end::ControlKind;
 use crate::link::refusal::outcome_name;
 use crate::link::script::{Record, Row};
 
-/// What is given with an outcome, by its number in a row; control bytes are
-/// told apart by their kind, the first of them.
-type With = (u32, Option<u32>);
-
-const CONTROL_BYTES: u32 = 3;
-
-const NOTHING: With = (0, None);
-const LENGTH: With = (1, None);
-const RUN: With = (2, None);
-const DELIVERY: With = (4, None);
+/// What is given with an outcome. Control bytes are told apart by their kind,
+/// the first of them, and a length by whether dropped bytes come with it.
+#[derive(Clone, Copy, PartialEq, Eq)]
+enum With {
+    Nothing,
+    Length,
+    Dropped,
+    Run,
+    Control(u32),
+    Delivery,
+    /// What no call gives, by its number in a row and how many values there
+    /// are.
+    Other(u32, usize),
+}
 
 const fn control(kind: ControlKind) -> With {
-    (CONTROL_BYTES, Some(kind as u32))
+    With::Control(kind as u32)
 }
+
+/// A pull whose last one before was refused by 9; it is counted as a pull, too.
+const AFTER_DROP: &str = "pull, next after a 9";
 
 /// The calls of a script, arrivals by their kind, with all that each can give
 /// and the outcomes with which it gives that. Push can also be refused by 11,
 /// which is for contents of over 65,535 bytes: no script can hold one, and
 /// the ring comparison has it.
-const OUTCOMES: [(&str, With, &[u32]); 26] = [
-    ("opening", NOTHING, &[0, 1, 2, 3, 4, 5]),
-    ("arrival, empty", NOTHING, &[6, 12]),
-    ("arrival, unknown kind", NOTHING, &[6, 13]),
-    ("arrival, data", DELIVERY, &[0]),
-    ("arrival, data", NOTHING, &[6, 12, 14, 15, 16, 17, 18]),
-    ("arrival, release data", NOTHING, &[0, 6, 12, 16, 25]),
+const OUTCOMES: [(&str, With, &[u32]); 29] = [
+    ("opening", With::Nothing, &[0, 1, 2, 3, 4, 5]),
+    ("arrival, empty", With::Nothing, &[6, 12]),
+    ("arrival, unknown kind", With::Nothing, &[6, 13]),
+    ("arrival, data", With::Delivery, &[0]),
+    ("arrival, data", With::Nothing, &[6, 12, 14, 15, 16, 17, 18]),
+    ("arrival, release data", With::Nothing, &[0, 6, 12, 16, 25]),
     // It binds at once, or is stored.
     ("arrival, bound", control(ControlKind::ReleaseBound), &[0]),
     (
         "arrival, bound",
-        NOTHING,
+        With::Nothing,
         &[0, 6, 12, 14, 16, 17, 18, 19, 20, 21, 22],
     ),
-    ("arrival, release bound", NOTHING, &[0, 6, 12, 14, 16, 25]),
+    (
+        "arrival, release bound",
+        With::Nothing,
+        &[0, 6, 12, 14, 16, 25],
+    ),
     // Of an initiator; of a follower that finds its binding, or waits.
     ("register", control(ControlKind::Bound), &[0]),
     ("register", control(ControlKind::ReleaseBound), &[0]),
-    ("register", NOTHING, &[0, 6, 20, 21, 22, 23, 24]),
-    ("reserve", RUN, &[0]),
-    ("reserve", NOTHING, &[6, 23, 24]),
+    ("register", With::Nothing, &[0, 6, 20, 21, 22, 23, 24]),
+    ("reserve", With::Run, &[0]),
+    ("reserve", With::Nothing, &[6, 23, 24]),
     ("send", control(ControlKind::Data), &[0]),
-    ("send", NOTHING, &[6, 15, 23, 25]),
-    ("drop", NOTHING, &[0, 6, 25]),
+    ("send", With::Nothing, &[6, 15, 23, 25]),
+    ("drop", With::Nothing, &[0, 6, 25]),
     ("done", control(ControlKind::ReleaseData), &[0]),
-    ("done", NOTHING, &[6, 25]),
-    ("push", LENGTH, &[0, 6, 7, 10]),
-    ("start", LENGTH, &[0, 6]),
-    ("pull", LENGTH, &[0, 6, 7, 8, 9]),
-    ("room", NOTHING, &[0, 6, 25]),
-    ("view", NOTHING, &[0, 6, 25]),
-    ("room question", NOTHING, &[0, 6, 25]),
-    ("view question", NOTHING, &[0, 6, 25]),
+    ("done", With::Nothing, &[6, 25]),
+    ("push", With::Length, &[0, 6, 7, 10]),
+    ("start", With::Length, &[0, 6]),
+    ("pull", With::Length, &[0, 6, 7, 8]),
+    ("pull", With::Dropped, &[9]),
+    (AFTER_DROP, With::Length, &[0, 6, 7, 8]),
+    (AFTER_DROP, With::Dropped, &[9]),
+    ("room", With::Nothing, &[0, 6, 25]),
+    ("view", With::Nothing, &[0, 6, 25]),
+    ("room question", With::Nothing, &[0, 6, 25]),
+    ("view question", With::Nothing, &[0, 6, 25]),
 ];
 
 /// What the list calls a record; none if it is no call.
@@ -91,14 +105,28 @@ fn call_of(record: &Record) -> Option<&'static str> {
 
 /// What a row says is given.
 fn with(row: &Row) -> With {
-    let kind = row.values().first().copied();
-    (row.given(), kind.filter(|_| row.given() == CONTROL_BYTES))
+    match (row.given(), row.values()) {
+        (0, []) => With::Nothing,
+        (1, [_]) => With::Length,
+        (1, [0, dropped]) if *dropped > 0 => With::Dropped,
+        (2, [_, _]) => With::Run,
+        (3, [kind, _, _]) => With::Control(*kind),
+        (4, [_, _, _]) => With::Delivery,
+        (given, values) => With::Other(given, values.len()),
+    }
 }
 
-fn with_name((given, kind): With) -> String {
-    match kind {
-        Some(kind) => format!("bytes {kind}"),
-        None => given_name(given).to_string(),
+impl With {
+    fn name(self) -> String {
+        match self {
+            With::Nothing => "nothing".to_string(),
+            With::Length => "length".to_string(),
+            With::Dropped => "dropped".to_string(),
+            With::Run => "run".to_string(),
+            With::Control(kind) => format!("bytes {kind}"),
+            With::Delivery => "delivery".to_string(),
+            With::Other(given, values) => format!("{values} values of {given}"),
+        }
     }
 }
 
@@ -107,10 +135,14 @@ pub struct Outcomes {
     tallies: [Tally; OUTCOMES.len()],
     /// Calls that gave what they never give, in words.
     others: BTreeMap<String, u64>,
+    /// The last pull of the script was refused by 9.
+    after_drop: bool,
 }
 
 impl Outcomes {
+    /// A script begins.
     pub fn count_opening(&mut self, row: &Row) {
+        self.after_drop = false;
         self.count_call("opening", row);
     }
 
@@ -119,6 +151,12 @@ impl Outcomes {
         let call = call_of(record);
         if let Some(call) = call {
             self.count_call(call, row);
+        }
+        if let Record::Pull { .. } = record {
+            if self.after_drop {
+                self.count_call(AFTER_DROP, row);
+            }
+            self.after_drop = row.number() == 9;
         }
         call.is_some()
     }
@@ -130,7 +168,7 @@ impl Outcomes {
             Some(at) => self.tallies[at].count(row.number()),
             None => {
                 let outcome = outcome_name(row.number());
-                let other = format!("{call}: {outcome} with {}", with_name(with));
+                let other = format!("{call}: {outcome} with {}", with.name());
                 *self.others.entry(other).or_default() += 1;
             }
         }
@@ -143,7 +181,7 @@ impl Outcomes {
             "outcomes by call and what is given, number: times (11 of push is among the ring's)"
         );
         for (tally, (call, with, numbers)) in self.tallies.iter().zip(OUTCOMES) {
-            let with = with_name(with);
+            let with = with.name();
             let counts = numbers
                 .iter()
                 .map(|&number| format!("  {number}: {}", tally.occurrences(number)));

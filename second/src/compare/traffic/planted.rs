@@ -10,10 +10,12 @@ use crate::compare::Settings;
 use crate::link::fault::{self, Fault};
 
 /// Faults that make changes of a newer partner matter.
-const NEWER_FAULTS: [Fault; 6] = [
+const NEWER_FAULTS: [Fault; 8] = [
     Fault::LongControlRefused,
     Fault::KindOfTwoBits,
     Fault::ReservedBytesRead,
+    Fault::NextPacketSought,
+    Fault::BrokenContentCopied,
     Fault::SizeReadAgain,
     Fault::BytesBehindNameRefused,
     Fault::LongBoundGivesDelivery,

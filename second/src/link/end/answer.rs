@@ -5,7 +5,7 @@ use std::ops::Range;
 use super::control::ControlKind;
 use crate::link::refusal::Refusal;
 
-/// What an accepted call answers.
+/// What a call answers beside its number.
 #[derive(Default)]
 pub struct Answer {
     pub given: Given,
@@ -30,6 +30,8 @@ pub enum Given {
     Nothing,
     /// Of a ring call's content; 0 if it is refused.
     Length(u32),
+    /// Unread bytes that went with a broken packet; the length is 0.
+    Dropped(u32),
     /// The blocks of a reservation.
     Run { start: u32, count: u32 },
     /// Three bytes to be pushed.
@@ -49,6 +51,7 @@ impl Given {
         match *self {
             Given::Nothing => Vec::new(),
             Given::Length(length) => vec![length],
+            Given::Dropped(bytes) => vec![0, bytes],
             Given::Run { start, count } => vec![start, count],
             Given::Control(bytes) => bytes.map(u32::from).to_vec(),
             Given::Delivery { address, start, k } => vec![address.into(), start, k],
@@ -59,7 +62,7 @@ impl Given {
     pub fn number(&self) -> u32 {
         match self {
             Given::Nothing => 0,
-            Given::Length(_) => 1,
+            Given::Length(_) | Given::Dropped(_) => 1,
             Given::Run { .. } => 2,
             Given::Control(_) => 3,
             Given::Delivery { .. } => 4,
@@ -80,18 +83,6 @@ impl Given {
     }
 }
 
-/// What is given, in words, by its number in a row.
-pub fn given_name(number: u32) -> &'static str {
-    match number {
-        0 => "nothing",
-        1 => "length",
-        2 => "run",
-        3 => "control bytes",
-        4 => "delivery",
-        _ => "unknown",
-    }
-}
-
 /// The slices that calls write to.
 #[derive(Clone, Copy, PartialEq, Eq)]
 pub enum Slice {
@@ -106,6 +97,31 @@ pub struct Written {
     pub range: Range<usize>,
 }
 
+/// A refused call. All but a pull of a broken packet have nothing to answer.
+pub struct Refused {
+    pub refusal: Refusal,
+    pub answer: Answer,
+}
+
+impl From<Refusal> for Refused {
+    fn from(refusal: Refusal) -> Self {
+        Refused {
+            refusal,
+            answer: Answer::default(),
+        }
+    }
+}
+
+impl Refused {
+    /// With this given, if nothing is.
+    pub fn giving(mut self, given: Given) -> Self {
+        if let Given::Nothing = self.answer.given {
+            self.answer.given = given;
+        }
+        self
+    }
+}
+
 /// What a call comes to; number 0 is an accepted one.
 pub struct Outcome {
     pub number: u32,
@@ -114,11 +130,17 @@ pub struct Outcome {
 
 impl Outcome {
     pub fn new(result: Result<Answer, Refusal>) -> Self {
+        result.map_err(Refused::from).into()
+    }
+}
+
+impl From<Result<Answer, Refused>> for Outcome {
+    fn from(result: Result<Answer, Refused>) -> Self {
         match result {
             Ok(answer) => Outcome { number: 0, answer },
-            Err(refusal) => Outcome {
+            Err(Refused { refusal, answer }) => Outcome {
                 number: refusal as u32,
-                answer: Answer::default(),
+                answer,
             },
         }
     }

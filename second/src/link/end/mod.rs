@@ -11,7 +11,7 @@ mod region;
 mod rings;
 mod runs;
 
-pub use answer::{given_name, Answer, Given, Outcome, Slice};
+pub use answer::{Answer, Given, Outcome, Refused, Slice};
 pub use binding::{Endpoint, Name, LONGEST_NAME, MOST_ENDPOINTS};
 pub use control::{Control, ControlKind, BOUND, CONTROL, DATA, RELEASE_BOUND};
 pub use messages::{Incoming, Outgoing};
@@ -106,31 +106,25 @@ impl End {
         &mut self,
         call: impl FnOnce(&mut Open) -> Result<Answer, Refusal>,
     ) -> Outcome {
-        let answer = self.answer(call);
-        let refused = answer.is_err();
-        let mut outcome = Outcome::new(answer);
-        if refused {
-            outcome.answer.given = Given::Length(0);
-        }
-        outcome
+        let refused = |refusal| Refused::from(refusal).giving(Given::Length(0));
+        self.answer(call).map_err(refused).into()
     }
 
-    /// A ring call, but for the planted fault.
+    /// A ring call whose refusal may have its own answer.
     pub fn pull_call(
         &mut self,
-        call: impl FnOnce(&mut Open) -> Result<Answer, Refusal>,
+        call: impl FnOnce(&mut Open) -> Result<Answer, Refused>,
     ) -> Outcome {
-        if planted(Fault::PullGivesNothing) {
-            self.call(call)
-        } else {
-            self.ring_call(call)
-        }
+        let given = unless(Fault::EveryPullDrops, Given::Length(0), Given::Dropped(0));
+        let given = unless(Fault::PullGivesNothing, given, Given::Nothing);
+        let refused = |refused: Refused| refused.giving(given);
+        self.answer(call).map_err(refused).into()
     }
 
-    fn answer(
+    fn answer<E: From<Refusal>>(
         &mut self,
-        call: impl FnOnce(&mut Open) -> Result<Answer, Refusal>,
-    ) -> Result<Answer, Refusal> {
+        call: impl FnOnce(&mut Open) -> Result<Answer, E>,
+    ) -> Result<Answer, E> {
         call(self.open.as_mut().ok_or(Refusal::WrongRegion)?)
     }
 

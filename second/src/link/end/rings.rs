@@ -2,13 +2,13 @@
 
 use std::ops::Range;
 
-use super::answer::{Answer, Given, Slice, Written};
+use super::answer::{Answer, Given, Refused, Slice, Written};
 use super::region::Region;
 use super::Open;
 use crate::link::fault::{unless, Fault};
 use crate::link::layout::ring_header;
 use crate::link::refusal::Refusal;
-use crate::link::ring::{self, packet_length, Moved, UNIT};
+use crate::link::ring::{self, packet_length, Dropped, Moved, RefusedPull, UNIT};
 
 impl Open {
     /// Empties the transmit ring and pushes the start content on it.
@@ -41,22 +41,37 @@ impl Open {
         answer
     }
 
-    pub fn pull(&mut self, receive: &mut [u8], buffer: &mut [u8]) -> Result<Answer, Refusal> {
-        let region = &self.receive;
-        let Moved { length, own_index } =
-            ring::pull(&region.request, self.read_index, receive, buffer)?;
-        self.read_index = own_index;
+    pub fn pull(&mut self, receive: &mut [u8], buffer: &mut [u8]) -> Result<Answer, Refused> {
+        match ring::pull(&self.receive.request, self.read_index, receive, buffer) {
+            Ok(Moved { length, own_index }) => {
+                let mut answer = self.reads_on(own_index, Given::Length(length));
+                answer.written.push(Written {
+                    slice: Slice::Buffer,
+                    range: 0..buffer.len().min(length as usize),
+                });
+                Ok(answer)
+            }
+            Err(RefusedPull { refusal, dropped }) => Err(Refused {
+                refusal,
+                answer: dropped.map_or(Answer::default(), |dropped| self.dropped(dropped)),
+            }),
+        }
+    }
 
-        let mut answer = Answer::giving(Given::Length(length));
+    fn dropped(&mut self, Dropped { bytes, own_index }: Dropped) -> Answer {
+        let [right, wrong] = [Given::Dropped(bytes), Given::Length(bytes)];
+        self.reads_on(own_index, unless(Fault::DroppedIsLength, right, wrong))
+    }
+
+    /// Goes on at an index that has been written out.
+    fn reads_on(&mut self, own_index: u32, given: Given) -> Answer {
+        self.read_index = own_index;
+        let mut answer = Answer::giving(given);
         answer.written.push(Written {
             slice: Slice::Receive,
-            range: region.read_index_place(),
+            range: self.receive.read_index_place(),
         });
-        answer.written.push(Written {
-            slice: Slice::Buffer,
-            range: 0..buffer.len().min(length as usize),
-        });
-        Ok(answer)
+        answer
     }
 }
 

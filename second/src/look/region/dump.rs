@@ -6,7 +6,7 @@ use std::fmt::{self, Display, Formatter};
 use crate::link::end::{number_at, Control, ControlKind, Message, Name, Region};
 use crate::link::layout::Request;
 use crate::link::refusal::{refuse, Refusal};
-use crate::link::ring::{self, is_start, packet_length, LONGEST_CONTENT};
+use crate::link::ring::{self, is_start, Dropped, RefusedPull, LONGEST_CONTENT};
 use crate::look::words::{hex, refused, strange, text_or_hex};
 
 /// Bytes of a bad name that are shown.
@@ -19,8 +19,8 @@ pub struct Dump<'a> {
     pub write_index: u32,
     /// Those that can be pulled, from the read index on.
     pub packets: Vec<Packet>,
-    /// What the pull behind them is refused with.
-    pub stop: Refusal,
+    /// What the pull behind them comes to.
+    pub stop: RefusedPull,
     pub odd: Vec<Odd>,
 }
 
@@ -77,7 +77,7 @@ impl<'a> Dump<'a> {
             region,
             bytes,
             packets: Vec::new(),
-            stop: Refusal::Empty,
+            stop: Refusal::Empty.into(),
             odd: Vec::new(),
         };
         dump.pull_all();
@@ -111,8 +111,8 @@ impl<'a> Dump<'a> {
                     self.packets.push(Packet { at, content, said });
                     at = moved.own_index;
                 }
-                Err(refusal) => {
-                    self.stop = refusal;
+                Err(refused) => {
+                    self.stop = refused;
                     return;
                 }
             }
@@ -161,21 +161,16 @@ impl<'a> Dump<'a> {
                 });
             }
         }
-        if let (Refusal::BrokenPacket, Some(unread)) = (self.stop, self.unread()) {
-            let taken = self.packets.iter();
-            let taken: usize = taken
-                .map(|packet| packet_length(packet.content.len()))
-                .sum();
-            let at = (self.read_index + taken as u32) % data_length;
+        if let Some(Dropped { bytes, .. }) = self.stop.dropped {
+            let at = (self.write_index + data_length - bytes) % data_length;
             let header: Vec<u8> = self.data_at(at).take(4).collect();
             let claimed = u16::from_be_bytes([header[0], header[1]]);
             self.odd.push(Odd {
                 place: format!("packet at {at}: a pull is"),
-                refusal: Some(Refusal::BrokenPacket),
+                refusal: Some(self.stop.refusal),
                 note: format!(
-                    "{}: {claimed} bytes of content, {} unread",
-                    hex(&header, header.len()),
-                    unread - taken
+                    "{}: {claimed} bytes of content, {bytes} unread, and the pull drops them",
+                    hex(&header, header.len())
                 ),
             });
         }

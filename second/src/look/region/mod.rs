@@ -4,7 +4,7 @@ mod blocks;
 mod dump;
 mod ring;
 
-pub use dump::Dump;
+pub use dump::{Dump, Packet};
 
 use super::words::{counted, refused};
 use crate::link::layout::Request;

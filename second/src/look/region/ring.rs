@@ -50,10 +50,12 @@ fn fullness(dump: &Dump) -> String {
         0 => format!("empty: a pull is {}; {space}", refused(Refusal::Empty)),
         _ => {
             let packets = counted(dump.packets.len(), "packet");
-            let broken = match dump.stop {
-                Refusal::BrokenPacket => ", then a broken one",
-                _ => "",
-            };
+            let broken = dump.stop.dropped.map_or(String::new(), |dropped| {
+                format!(
+                    ", then a broken one, whose pull drops {} bytes",
+                    dropped.bytes
+                )
+            });
             format!("{unread} bytes unread: {packets}{broken}; {space}")
         }
     }

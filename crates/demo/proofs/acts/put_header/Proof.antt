@@ -12,37 +12,27 @@ product b z p q =
     let n : z ≤ 4294967295 = omega arith in
     mul-le-mul m n
 
-cast-at : tie.Need-cast-at
-cast-at c = search needs
+cast-offset : tie.Need-cast-offset
+cast-offset c = search needs
 
-cast-at-2 : tie.Need-cast-at-2
-cast-at-2 c = search needs
+cast-offset-2 : tie.Need-cast-offset-2
+cast-offset-2 c = search needs
 
-mul-at : tie.Need-mul-at
-mul-at c =
+mul-offset : tie.Need-mul-offset
+mul-offset c =
     let a = c .before .before .args in
     omega (arith, product (a .block) (a .g .«block_size») (omega arith) (omega arith))
 
-add-at : tie.Need-add-at
-add-at c =
+add-offset : tie.Need-add-offset
+add-offset c =
     let a = c .before .before .args in
     omega (arith, product (a .block) (a .g .«block_size») (omega arith) (omega arith))
 
-add-if1 : tie.Need-add-if1
-add-if1 c =
-    let a = c .before .before .args in
-    omega (arith, product (a .block) (a .g .«block_size») (omega arith) (omega arith))
-
-write-u32-requires : tie.Need-write-u32-requires
-write-u32-requires c κs = search needs
+overwrite-requires : tie.Need-overwrite-requires
+overwrite-requires c κs = search needs
 
 returns : tie.Need-returns
 returns c = search needs
 
-returns-2 : tie.Need-returns-2
-returns-2 c = search needs
-
 pub put-header-spec : {M : Type 1} → statement M
-put-header-spec =
-    tie.close
-    (tie.spec cast-at cast-at-2 mul-at add-at add-if1 write-u32-requires returns returns-2)
+put-header-spec = tie.close (tie.spec cast-offset cast-offset-2 mul-offset add-offset overwrite-requires returns)

@@ -7,14 +7,14 @@ use lib.ListN.{length}
 use denote.Ref.{now}
 use Rattle.wire.specs.Bytes.{wrote}
 use Rattle.icmsg.specs.declared.Ring.{Ring}
-use Rattle.icmsg.proofs.Indexes.{refusals}
+use Rattle.icmsg.proofs.Indexes.{pull-refused, pull-dropped}
 use Rattle.endpoints.specs.declared.Endpoint.{Endpoint}
 use Rattle.endpoints.specs.declared.Binding.{Binding}
 use Rattle.icbmsg.specs.End.{End}
 use Rattle.checks.specs.Parts.{joined}
 use Rattle.checks.proofs.OpenSays.{not-whole, is-whole}
 use Rattle.wire.specs.Reads.{answer}
-use Rattle.icmsg.specs.Rules.{Outcome as RingOutcome, pullRule as ringPull}
+use Rattle.icmsg.specs.Rules.{answerNumber, Outcome as RingOutcome, pullRule as ringPull}
 use Rattle.icbmsg.specs.Ends.{whole, changed}
 use Rattle.icbmsg.specs.Rings.{ringOf}
 use Rattle.icbmsg.proofs.RulesRead.{pull-answer}
@@ -25,7 +25,7 @@ use Rattle.link.proofs.End.pull.Statement.{statement}
 use Rattle.link.proofs.End.pull.Tie as tie
 use Rattle.checks.proofs.is_whole.Reads as is-whole-reads
 use Rattle.icmsg.proofs.pull.Reads as pull-reads
-use Rattle.link.proofs.rings.own_index.Reads as own-index-reads
+use Rattle.icmsg.proofs.RingAnswer.index_after.Reads as index-after-reads
 use Rattle.link.proofs.rings.refused.Reads as refused-reads
 use Rattle.link.proofs.rings.ring_of.Reads as ring-of-reads
 use Rattle.link.proofs.rings.told.Reads as told-reads
@@ -55,8 +55,8 @@ ring-of-requires c κs = search needs
 pull-requires : tie.Need-pull-requires
 pull-requires c κs = search needs
 
-own-index-requires : tie.Need-own-index-requires
-own-index-requires c κs = search needs
+index-after-requires : tie.Need-index-after-requires
+index-after-requires c κs = search needs
 
 told-requires : tie.Need-told-requires
 told-requires c κs = search needs
@@ -76,8 +76,11 @@ returns-2 c = all-of-three (λ t ps bs.
     let r = ap (λ (g : Ring). answer (ringPull (length (now (a .rx))) g (a .numbers .read) b) (now (a .rx))) (c .before .before .before .before .before .before .before .before .ring-of .ensures) in
     let o : RingOutcome = answer (ringPull (length (now (a .rx))) (ringOf (a .numbers .alignment) (a .numbers .rx)) (a .numbers .read) b) (now (a .rx)) in
     let p = c .before .before .before .before .before .before .pull .ensures in
-    let w = pull-told o (λ n h. refusals .pull (length (now (a .rx))) (ringOf (a .numbers .alignment) (a .numbers .rx)) (a .numbers .read) b (now (a .rx)) n h .1) _
-    (p .0 ∙ ap (λ (x : RingOutcome). x .answer) r) (c .told .result) (c .told .ensures .0) (c .told .ensures .1) _ e _ (lent (c .before .before .before .before .before .before .before .before .before .before) t ps bs) (c .before .own-index .ensures) in
+    let w = pull-told o _
+    (p .0 ∙ ap (λ (x : RingOutcome). x .answer) r) (c .told .result) (c .told .ensures .0) (c .told .ensures .1) _ e
+    (λ n h. pull-refused (length (now (a .rx))) (ringOf (a .numbers .alignment) (a .numbers .rx)) (a .numbers .read) b (now (a .rx)) n h .1)
+    (λ n j h. ap (λ (x : RingOutcome). x .buffer) (pull-dropped (length (now (a .rx))) (ringOf (a .numbers .alignment) (a .numbers .rx)) (a .numbers .read) b (now (a .rx)) (ap answerNumber h) .is))
+    _ (lent (c .before .before .before .before .before .before .before .before .before .before) t ps bs) (c .before .index-after .ensures) in
     rw (pull-answer e (length (now (a .rx))) b (now (a .rx)))
     (w .0, (p .1 .0 ∙ ap (λ (x : RingOutcome). wrote (now (a .rx)) (x .region)) r ∙ ap (wrote (now (a .rx))) (w .1), p .1 .1 ∙ ap (λ (x : RingOutcome). wrote (now (a .buffer)) (x .buffer)) r ∙ ap (wrote (now (a .buffer))) (w .2))))
 
@@ -90,7 +93,7 @@ pull-spec =
     returns
     ring-of-requires
     pull-requires
-    own-index-requires
+    index-after-requires
     told-requires
     same-length
     same-length-2

@@ -23,7 +23,7 @@ use Rattle.link.proofs.End.push.Statement.{statement}
 use Rattle.link.proofs.End.push.Tie as tie
 use Rattle.checks.proofs.is_whole.Reads as is-whole-reads
 use Rattle.icmsg.proofs.push.Reads as push-reads
-use Rattle.link.proofs.rings.own_index.Reads as own-index-reads
+use Rattle.icmsg.proofs.RingAnswer.index_after.Reads as index-after-reads
 use Rattle.link.proofs.rings.refused.Reads as refused-reads
 use Rattle.link.proofs.rings.ring_of.Reads as ring-of-reads
 use Rattle.link.proofs.rings.told.Reads as told-reads
@@ -54,8 +54,8 @@ ring-of-requires c κs = search needs
 push-requires : tie.Need-push-requires
 push-requires c κs = search needs
 
-own-index-requires : tie.Need-own-index-requires
-own-index-requires c κs = search needs
+index-after-requires : tie.Need-index-after-requires
+index-after-requires c κs = search needs
 
 told-requires : tie.Need-told-requires
 told-requires c κs = search needs
@@ -70,8 +70,8 @@ returns-2 c = each-of-three (λ t ps bs.
     let r = ap (λ (g : Ring). ringPush (now (a .tx)) g (a .numbers .write) (now (a .content))) (c .before .before .before .before .before .ring-of .ensures) in
     let o : RingOutcome = ringPush (now (a .tx)) (ringOf (a .numbers .alignment) (a .numbers .tx)) (a .numbers .write) (now (a .content)) in
     let p = c .before .before .before .before .push .ensures in
-    let w = push-told o (λ n h. refusals .push (now (a .tx)) (ringOf (a .numbers .alignment) (a .numbers .tx)) (a .numbers .write) (now (a .content)) n h .1) _
-    (p .0 ∙ ap (λ (x : RingOutcome). x .answer) r) (c .told .result) (c .told .ensures .0) (c .told .ensures .1) _ (of (c .before .before .before .before .before .before .before .before .before .before .before) t ps bs) _ (lent (c .before .before .before .before .before .before .before) t ps bs) (c .before .own-index .ensures) in
+    let w = push-told o _
+    (p .0 ∙ ap (λ (x : RingOutcome). x .answer) r) (c .told .result) (c .told .ensures .0) (c .told .ensures .1) _ (of (c .before .before .before .before .before .before .before .before .before .before .before) t ps bs) (refusals .push (now (a .tx)) (ringOf (a .numbers .alignment) (a .numbers .tx)) (a .numbers .write) (now (a .content))) _ (lent (c .before .before .before .before .before .before .before) t ps bs) (c .before .index-after .ensures) in
     (w .0, p .1 ∙ ap (λ (x : RingOutcome). wrote (now (a .tx)) (x .region)) r ∙ ap (wrote (now (a .tx))) (w .1)))
 
 pub push-spec : {M : Type 1} → statement M
@@ -83,7 +83,7 @@ push-spec =
     returns
     ring-of-requires
     push-requires
-    own-index-requires
+    index-after-requires
     told-requires
     same-length
     returns-2)
