@@ -1,24 +1,24 @@
 -- No bytes jam a ring: each pull leaves fewer unread bytes, and a broken packet none.
 use Prim.Native.Nat.{ℕ, zero, suc, _+_, _-_, _*_, _%_, _≤_, _<_}
-use mathlib.Core.Bool.{Bool, true, false, not, _&&_}
+use mathlib.Core.Bool.{Bool, true, false, not}
 use mathlib.Core.Path.{_≡_, refl, sym, ap, _∙_}
 use mathlib.Core.List.{List, []}
 use native.Mathlib.Nat.{mod-lt, mod-eq-of-lt, mod-add-mod, add-zero, add-assoc}
 use native.Mathlib.Omega.{arith}
 use lib.Dec.{leb, eqb}
 use lib.ListN.{length}
-use borrow.Author.Tests.{leb-true, eqb-true, le-leb, eq-eqb, not-true}
+use borrow.Author.Tests.{leb-true, eqb-true, le-leb, eq-eqb}
 use Rattle.wire.specs.Choice.{pick}
 use Rattle.wire.specs.Bytes.{littleEndian, fromLittleEndian, straight, wrote}
 use Rattle.wire.specs.Reads.{answer}
 use Rattle.wire.proofs.Choices.{both}
 use Rattle.wire.proofs.Positions.{length-wrote, bytes-kept, number-written}
 use Rattle.icmsg.specs.Ring.{readIndexAt, writeIndexAt, dataAt, indexAt, inRule, isSound, used, packetLength, behind}
-use Rattle.icmsg.specs.Rules.{answerNumber, indexAfter, Outcome, refusal, fitNumber, pushNumber, pushed, pushRule, readTo, Found, found, nothing, broken, pullFound, pullRule, dropping}
-use Rattle.icmsg.specs.Laws.{Sound, after, NothingUnread, pulled, NeverJams}
+use Rattle.icmsg.specs.Rules.{indexAfter, Outcome, refusal, fitNumber, pushNumber, pushed, pushRule, readTo, found, nothing, broken, pullFound, pullRule}
+use Rattle.icmsg.specs.Laws.{after, NothingUnread, pulled, NeverJams}
 use Rattle.icmsg.specs.declared.Ring.{Ring}
 use Rattle.icmsg.proofs.Checks.{in-rule-says, sound-says, used-straight}
-use Rattle.icmsg.proofs.Pulls.{partner, lengthAt, look-flat, taken, take-flat, past-6}
+use Rattle.icmsg.proofs.Pulls.{partner, lengthAt, look-flat, take-flat, past-6}
 use Rattle.icmsg.proofs.Indexes.{pull-dropped, behind-in-rule, used-back, used-of}
 use Rattle.icmsg.proofs.RoundTrip.{packet-low, push-and-pull}
 
