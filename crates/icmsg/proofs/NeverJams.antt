@@ -1,24 +1,24 @@
 -- No bytes jam a ring: each pull leaves fewer unread bytes, and a broken packet none.
 use Prim.Native.Nat.{ℕ, zero, suc, _+_, _-_, _*_, _%_, _≤_, _<_}
-use mathlib.Core.Bool.{Bool, true, false, not, _&&_}
+use mathlib.Core.Bool.{Bool, true, false, not}
 use mathlib.Core.Path.{_≡_, refl, sym, ap, _∙_}
 use mathlib.Core.List.{List, []}
 use native.Mathlib.Nat.{mod-lt, mod-eq-of-lt, mod-add-mod, add-zero, add-assoc}
 use native.Mathlib.Omega.{arith}
 use lib.Dec.{leb, eqb}
 use lib.ListN.{length}
-use borrow.Author.Tests.{leb-true, eqb-true, eq-eqb, not-true}
+use borrow.Author.Tests.{leb-true, eqb-true, le-leb, eq-eqb}
 use Rattle.wire.specs.Choice.{pick}
 use Rattle.wire.specs.Bytes.{littleEndian, fromLittleEndian, straight, wrote}
 use Rattle.wire.specs.Reads.{answer}
 use Rattle.wire.proofs.Choices.{both}
-use Rattle.wire.proofs.Positions.{length-wrote, bytes-kept}
+use Rattle.wire.proofs.Positions.{length-wrote, bytes-kept, number-written}
 use Rattle.icmsg.specs.Ring.{readIndexAt, writeIndexAt, dataAt, indexAt, inRule, isSound, used, packetLength, behind}
-use Rattle.icmsg.specs.Rules.{answerNumber, indexAfter, Outcome, refusal, readTo, Found, found, nothing, broken, pullFound, pullRule, dropping}
-use Rattle.icmsg.specs.Laws.{Sound, after, NothingUnread, pulled, NeverJams}
+use Rattle.icmsg.specs.Rules.{indexAfter, Outcome, refusal, fitNumber, pushNumber, pushed, pushRule, readTo, found, nothing, broken, pullFound, pullRule}
+use Rattle.icmsg.specs.Laws.{after, NothingUnread, pulled, NeverJams}
 use Rattle.icmsg.specs.declared.Ring.{Ring}
 use Rattle.icmsg.proofs.Checks.{in-rule-says, sound-says, used-straight}
-use Rattle.icmsg.proofs.Pulls.{partner, lengthAt, look-flat, taken, take-flat, past-6}
+use Rattle.icmsg.proofs.Pulls.{partner, lengthAt, look-flat, take-flat, past-6}
 use Rattle.icmsg.proofs.Indexes.{pull-dropped, behind-in-rule, used-back, used-of}
 use Rattle.icmsg.proofs.RoundTrip.{packet-low, push-and-pull}
 
@@ -60,6 +60,13 @@ module _ (g : Ring) (r i : ℕ) (s : List ℕ) (h : isSound (length s) g r ≡ t
   partner-stays =
       let o = sound-says (length s) g r h in
       ap fromLittleEndian (bytes-kept s (straight (readIndexAt g)) (straight (writeIndexAt g)) (littleEndian 4 i) 4 (λ a b lt few e. omega (arith, o .header, e)))
+
+  -- the own index is there to be read
+  index-written : i < 4294967296 → indexAt (wrote s (readTo g i)) (readIndexAt g) ≡ i
+  unfolding readTo indexAt
+  index-written small =
+      let o = sound-says (length s) g r h in
+      number-written s (readIndexAt g) 4 i (omega (arith, o .inside)) small
 
   -- and the ring lies there as before
   sound-stays : inRule (g .«data_length») i ≡ true → isSound (length (wrote s (readTo g i))) g i ≡ true
@@ -131,13 +138,25 @@ waiting g r b s h =
     let o = sound-says (length s) g r (h .0) in
     rw (past-6 (length s) g r b s (h .0), look-flat g r s, h .1, in-rule (length s) g r (h .0), eq-eqb r r refl)
 
+-- a push at an index where nothing is unread, with both indexes there
+fitting : (g : Ring) (r : ℕ) (s c : List ℕ) → NothingUnread s g r → indexAt s (readIndexAt g) ≡ r → length c ≤ 65535 → packetLength (length c) ≤ g .«data_length» - 1 →
+    pushRule s g r c ≡ pushed [] g r c
+unfolding pushRule pushNumber fitNumber
+fitting g r s c h e short l =
+    let o = sound-says (length s) g r (h .0) in
+    let n : used (g .«data_length») r r ≡ 0 = used-none (g .«data_length») r (o .below) in
+    rw (e, h .0, le-leb (length c) 65535 short, in-rule (length s) g r (h .0), n, le-leb (packetLength (length c) + 0) (g .«data_length» - 1) (omega arith))
+
 pub never-jams : NeverJams
 never-jams =
     record {
       emptied = λ n g b r s l h k. empties n g b r s (omega (arith, used-low (g .«data_length») r (partner g s) (in-rule-says (g .«data_length») (partner g s) k .0))) h k;
-      nine = λ g r b s h.
+      nine = λ g r b s small h.
           let p = pull-dropped (length s) g r b s h in
-          rw (p .is) (sound-stays g r (partner g s) s (p .test) (p .rule), partner-stays g r (partner g s) s (p .test));
+          let w : ℕ = partner g s in
+          let l : w < 4294967296 = omega (arith, in-rule-says (g .«data_length») w (p .rule) .0) in
+          rw (p .is) ((sound-stays g r w s (p .test) (p .rule), partner-stays g r w s (p .test)), index-written g r w s (p .test) l);
       waits = waiting;
-      goes-on = λ g r b s c k i small h p. rw (← h .1) (push-and-pull s g (partner g s) c k i b small p);
+      fits = fitting;
+      goes-on = λ g r b s c k i small h p. push-and-pull s g r c k i b small p;
     }

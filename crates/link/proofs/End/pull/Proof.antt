@@ -23,12 +23,6 @@ use Rattle.link.proofs.RingCalls.{pull-6, pull-quiet, pull-told, ring-r
 use borrow.Author.Needs.{needs}
 use Rattle.link.proofs.End.pull.Statement.{statement}
 use Rattle.link.proofs.End.pull.Tie as tie
-use Rattle.checks.proofs.is_whole.Reads as is-whole-reads
-use Rattle.icmsg.proofs.pull.Reads as pull-reads
-use Rattle.icmsg.proofs.RingAnswer.index_after.Reads as index-after-reads
-use Rattle.link.proofs.rings.refused.Reads as refused-reads
-use Rattle.link.proofs.rings.ring_of.Reads as ring-of-reads
-use Rattle.link.proofs.rings.told.Reads as told-reads
 
 abbrev of : tie.Start → List ℕ → List Endpoint → List Binding → End
 of c = joined (c .args .numbers)

@@ -21,12 +21,6 @@ use Rattle.link.proofs.RingCalls.{ring-6, push-told, ring-refused}
 use borrow.Author.Needs.{needs}
 use Rattle.link.proofs.End.push.Statement.{statement}
 use Rattle.link.proofs.End.push.Tie as tie
-use Rattle.checks.proofs.is_whole.Reads as is-whole-reads
-use Rattle.icmsg.proofs.push.Reads as push-reads
-use Rattle.icmsg.proofs.RingAnswer.index_after.Reads as index-after-reads
-use Rattle.link.proofs.rings.refused.Reads as refused-reads
-use Rattle.link.proofs.rings.ring_of.Reads as ring-of-reads
-use Rattle.link.proofs.rings.told.Reads as told-reads
 
 abbrev of : tie.Start → List ℕ → List Endpoint → List Binding → End
 of c = joined (c .args .numbers)
