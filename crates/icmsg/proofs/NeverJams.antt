@@ -11,13 +11,12 @@ use borrow.Author.Tests.{leb-true, eqb-true, le-leb, eq-eqb}
 use Rattle.wire.specs.Choice.{pick}
 use Rattle.wire.specs.Bytes.{littleEndian, fromLittleEndian, straight, wrote}
 use Rattle.wire.specs.Reads.{answer}
-use Rattle.wire.proofs.Choices.{both}
 use Rattle.wire.proofs.Positions.{length-wrote, bytes-kept, number-written}
-use Rattle.icmsg.specs.Ring.{readIndexAt, writeIndexAt, dataAt, indexAt, inRule, isSound, used, packetLength, behind}
+use Rattle.icmsg.specs.Ring.{readIndexAt, writeIndexAt, indexAt, inRule, isSound, used, packetLength, behind}
 use Rattle.icmsg.specs.Rules.{indexAfter, Outcome, refusal, fitNumber, pushNumber, pushed, pushRule, readTo, found, nothing, broken, pullFound, pullRule}
 use Rattle.icmsg.specs.Laws.{after, NothingUnread, pulled, NeverJams}
 use Rattle.icmsg.specs.declared.Ring.{Ring}
-use Rattle.icmsg.proofs.Checks.{in-rule-says, sound-says, used-straight}
+use Rattle.icmsg.proofs.Checks.{in-rule-says, sound-tests, sound-at, sound-says, used-straight}
 use Rattle.icmsg.proofs.Pulls.{partner, lengthAt, look-flat, take-flat, past-6}
 use Rattle.icmsg.proofs.Indexes.{pull-dropped, behind-in-rule, used-back, used-of}
 use Rattle.icmsg.proofs.RoundTrip.{packet-low, push-and-pull}
@@ -70,19 +69,7 @@ module _ (g : Ring) (r i : ℕ) (s : List ℕ) (h : isSound (length s) g r ≡ t
 
   -- and the ring lies there as before
   sound-stays : inRule (g .«data_length») i ≡ true → isSound (length (wrote s (readTo g i))) g i ≡ true
-  unfolding isSound
-  sound-stays k =
-      let a = both (leb 4 (g .alignment)) _ h in
-      let b = both (leb (dataAt g + g .«data_length») (length s)) _ (a .1) in
-      let c = both (eqb (g .«data_length» % 4) 0) _ (b .1) in
-      rw (length-wrote s (readTo g i), a .0, b .0, c .0, k)
-
-in-rule : (n : ℕ) (g : Ring) (r : ℕ) → isSound n g r ≡ true → inRule (g .«data_length») r ≡ true
-unfolding isSound
-in-rule n g r h =
-    let a = both (leb 4 (g .alignment)) _ h in
-    let b = both (leb (dataAt g + g .«data_length») n) _ (a .1) in
-    both (eqb (g .«data_length» % 4) 0) _ (b .1) .1
+  sound-stays k = rw (length-wrote s (readTo g i)) (sound-at (length s) g r i h k)
 
 -- ---- one pull, where the partner's index is in rule
 
@@ -135,8 +122,7 @@ empties (suc n) g b r s l h k =
 
 waiting : (g : Ring) (r b : ℕ) (s : List ℕ) → NothingUnread s g r → answer (pullRule (length s) g r b) s ≡ refusal 8
 waiting g r b s h =
-    let o = sound-says (length s) g r (h .0) in
-    rw (past-6 (length s) g r b s (h .0), look-flat g r s, h .1, in-rule (length s) g r (h .0), eq-eqb r r refl)
+    rw (past-6 (length s) g r b s (h .0), look-flat g r s, h .1, sound-tests (length s) g r (h .0) .rule, eq-eqb r r refl)
 
 -- a push at an index where nothing is unread, with both indexes there
 fitting : (g : Ring) (r : ℕ) (s c : List ℕ) → NothingUnread s g r → indexAt s (readIndexAt g) ≡ r → length c ≤ 65535 → packetLength (length c) ≤ g .«data_length» - 1 →
@@ -145,7 +131,7 @@ unfolding pushRule pushNumber fitNumber
 fitting g r s c h e short l =
     let o = sound-says (length s) g r (h .0) in
     let n : used (g .«data_length») r r ≡ 0 = used-none (g .«data_length») r (o .below) in
-    rw (e, h .0, le-leb (length c) 65535 short, in-rule (length s) g r (h .0), n, le-leb (packetLength (length c) + 0) (g .«data_length» - 1) (omega arith))
+    rw (e, h .0, le-leb (length c) 65535 short, sound-tests (length s) g r (h .0) .rule, n, le-leb (packetLength (length c) + 0) (g .«data_length» - 1) (omega arith))
 
 pub never-jams : NeverJams
 never-jams =
