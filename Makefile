@@ -124,7 +124,12 @@ target/bench/%.o: bench/%.c $(wildcard bench/*.h) include/petrelknob.h
 	@mkdir -p $(@D)
 	@gcc $(CFLAGS) -Ibench -c -o $@ $<
 
-target/bench/ring: target/bench/ring.o target/bench/plain_ring.o $(panel)
+# Rattle's back end compiles at -O3, so the plain ring is measured at both.
+target/bench/plain_ring_O3.o: bench/plain_ring.c $(wildcard bench/*.h)
+	@mkdir -p $(@D)
+	@gcc $(CFLAGS) -O3 $(foreach call,start push pull,-Dplain_$(call)=plain_$(call)_O3) -Ibench -c -o $@ $<
+
+target/bench/ring: target/bench/ring.o target/bench/plain_ring.o target/bench/plain_ring_O3.o $(panel)
 target/bench/packets: target/bench/packets.o $(panel)
 target/bench/calls: target/bench/calls.o target/bench/plain_end.o target/bench/plain_open.o $(rounds)
 target/bench/ring target/bench/packets target/bench/calls:

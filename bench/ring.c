@@ -1,6 +1,6 @@
 /* The proved ring and the plain C ring side by side: nanoseconds for a push and a pull together, by the content's length, for a
- * pull that finds nothing, and for a start. Both have the same interface, layout and checks. Each round runs one after the other, and
- * the least of all rounds counts. */
+ * pull that finds nothing, and for a start. Both have the same interface, layout and checks. The plain one is compiled twice, with -O2 and
+ * with -O3. Each round runs them one after the other, and the least of all rounds counts. */
 #include "seconds.h"
 
 #include "plain_ring.h"
@@ -28,15 +28,23 @@ static uint8_t region[LENGTH];
 static uint8_t content[LONGEST];
 static uint8_t buffer[LONGEST];
 
-/* The calls of one of the two rings. */
+/* plain_ring.c with -O3: the Makefile gives its calls these names. */
+start_call plain_start_O3;
+push_call plain_push_O3;
+pull_call plain_pull_O3;
+
 struct calls {
     start_call *start;
     push_call *push;
     pull_call *pull;
 };
 
-static const struct calls plain = {plain_start, plain_push, plain_pull};
-static const struct calls proved = {petrelknob_start, petrelknob_push, petrelknob_pull};
+enum { PLAIN, PLAIN_O3, PROVED, RINGS };
+static const struct calls rings[RINGS] = {
+    [PLAIN] = {plain_start, plain_push, plain_pull},
+    [PLAIN_O3] = {plain_start_O3, plain_push_O3, plain_pull_O3},
+    [PROVED] = {petrelknob_start, petrelknob_push, petrelknob_pull},
+};
 
 static void expect(int met, const char *what)
 {
@@ -91,14 +99,14 @@ static double round_of(work *work, const struct calls *ring, size_t length, uint
 static void compare(const char *what, work *work, size_t length)
 {
     uint32_t times = length < 100 ? CALLS : CALLS / 4;
-    double least_plain = 1e9, least_proved = 1e9;
-    for (int r = 0; r < ROUNDS; r++) {
-        double a = round_of(work, &plain, length, times);
-        double b = round_of(work, &proved, length, times);
-        least_plain = a < least_plain ? a : least_plain;
-        least_proved = b < least_proved ? b : least_proved;
-    }
-    printf("%-28s %9.1f %8.1f %7.2f\n", what, least_plain, least_proved, least_proved / least_plain);
+    double least[RINGS] = {1e9, 1e9, 1e9};
+    for (int r = 0; r < ROUNDS; r++)
+        for (int i = 0; i < RINGS; i++) {
+            double took = round_of(work, &rings[i], length, times);
+            least[i] = took < least[i] ? took : least[i];
+        }
+    printf("%-28s %8.1f %8.1f %8.1f %9.2f %6.2f\n", what, least[PLAIN], least[PLAIN_O3], least[PROVED],
+           least[PROVED] / least[PLAIN], least[PROVED] / least[PLAIN_O3]);
 }
 
 int main(void)
@@ -106,7 +114,7 @@ int main(void)
     for (size_t i = 0; i < sizeof content; i++)
         content[i] = (uint8_t)(i * 7 + 1);
 
-    printf("nanoseconds                    plain C   proved   ratio\n");
+    printf("nanoseconds                    C -O2    C -O3   proved    to -O2 to -O3\n");
     compare("push and pull,    3 bytes", pairs, 3);
     compare("push and pull,   64 bytes", pairs, 64);
     compare("push and pull, 1000 bytes", pairs, 1000);

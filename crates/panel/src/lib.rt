@@ -92,9 +92,10 @@ fn give(answer: &mut [u32], own: u32, a: RingAnswer) -> u32
     ensures number { λ r. ⌜ r ≡ answerNumber (answerOf a) ⌝ }
     ensures numbers { λ _. ⌜ now (answer .exit) ≡ answered (now (answer .entry)) (ringNumbers own (answerOf a)) ⌝ }
 {
+    let number = a.number();
     let numbers = [a.length(), a.index_after(own), a.dropped()];
     put_numbers(answer, &numbers);
-    a.number()
+    number
 }
 
 // Starts the region's ring: both indexes zero, then the packet with the start content. There is no own index before it.

@@ -4,6 +4,9 @@ use borrow.Author.Needs.{needs}
 use Rattle.panel.proofs.give.Statement.{statement}
 use Rattle.panel.proofs.give.Tie as tie
 
+number-requires : tie.Need-number-requires
+number-requires c κs = search needs
+
 length-requires : tie.Need-length-requires
 length-requires c κs = search needs
 
@@ -19,28 +22,26 @@ slice-aggregate-put-numbers c = search needs
 put-numbers-requires : tie.Need-put-numbers-requires
 put-numbers-requires c κs = search needs
 
-number-requires : tie.Need-number-requires
-number-requires c κs = search needs
-
 same-length : tie.Need-same-length
 same-length c = search needs
 
 returns : tie.Need-returns
 returns c =
-    let p = c .before .before .before in
+    let p = c .before .before in
     let d = p .before .before .before in
-    let a = d .before .before .before .before .args in
-    (c .number .ensures, ring-given (answerOf (a .a)) (a .own) _ _ _ _ _ (d .before .before .length .ensures) (d .before .index-after .ensures) (d .dropped .ensures) (p .put-numbers .ensures))
+    let n = d .before .before .before in
+    let a = n .before .before .args in
+    (n .number .ensures, ring-given (answerOf (a .a)) (a .own) _ _ _ _ _ (d .before .before .length .ensures) (d .before .index-after .ensures) (d .dropped .ensures) (p .put-numbers .ensures))
 
 pub give-spec : {M : Type 1} → statement M
 give-spec =
     tie.close
     (tie.spec
+    number-requires
     length-requires
     index-after-requires
     dropped-requires
     slice-aggregate-put-numbers
     put-numbers-requires
-    number-requires
     same-length
     returns)
