@@ -23,12 +23,12 @@ use Rattle.icmsg.proofs.RoundTrip.{packet-low, push-and-pull}
 
 -- ---- unread bytes: from the own index r to the partner's index w
 
-used-low : (d r w : ℕ) → w < d → used d r w < d
+pub used-low : (d r w : ℕ) → w < d → used d r w < d
 unfolding used
 used-low d r w k = mod-lt (w + d - r) (omega arith)
 
 -- m bytes fewer, if there are as many
-used-less : (d r w m : ℕ) → r < d → w < d → m ≤ used d r w → used d ((r + m) % d) w ≡ used d r w - m
+pub used-less : (d r w m : ℕ) → r < d → w < d → m ≤ used d r w → used d ((r + m) % d) w ≡ used d r w - m
 used-less d r w m h k l =
     let u : ℕ = used d r w in
     let u-low : u < d = used-low d r w k in
@@ -42,10 +42,10 @@ unfolding behind
 behind-fewer d r w k h l f = omega (arith, used-less d r w (packetLength k) h l f, packet-low k)
 
 -- none from an index to itself, and only there
-used-none : (d r : ℕ) → r < d → used d r r ≡ 0
+pub used-none : (d r : ℕ) → r < d → used d r r ≡ 0
 used-none d r h = sym (used-straight d r r (omega arith) h) ∙ omega arith
 
-none-used : (d r w : ℕ) → r < d → w < d → used d r w ≤ 0 → w ≡ r
+pub none-used : (d r w : ℕ) → r < d → w < d → used d r w ≤ 0 → w ≡ r
 none-used d r w h k l =
     let z : used d r w ≡ 0 = omega arith in
     sym (used-back d r w h k) ∙ ap (λ (x : ℕ). (r + x) % d) z ∙ ap (λ (x : ℕ). x % d) (add-zero r) ∙ mod-eq-of-lt h
@@ -54,14 +54,14 @@ none-used d r w h k l =
 
 module _ (g : Ring) (r i : ℕ) (s : List ℕ) (h : isSound (length s) g r ≡ true) where
   -- the partner's index stays
-  partner-stays : partner g (wrote s (readTo g i)) ≡ partner g s
+  pub partner-stays : partner g (wrote s (readTo g i)) ≡ partner g s
   unfolding readTo indexAt littleEndian
   partner-stays =
       let o = sound-says (length s) g r h in
       ap fromLittleEndian (bytes-kept s (straight (readIndexAt g)) (straight (writeIndexAt g)) (littleEndian 4 i) 4 (λ a b lt few e. omega (arith, o .header, e)))
 
   -- the own index is there to be read
-  index-written : i < 4294967296 → indexAt (wrote s (readTo g i)) (readIndexAt g) ≡ i
+  pub index-written : i < 4294967296 → indexAt (wrote s (readTo g i)) (readIndexAt g) ≡ i
   unfolding readTo indexAt
   index-written small =
       let o = sound-says (length s) g r h in

@@ -24,7 +24,7 @@ use Rattle.icmsg.proofs.Pulls.{partner, lengthAt, look-flat, take-flat,
 -- ---- positions of a ring that lies in its region
 
 -- a data byte stands behind both indexes
-data-low : (g : Ring) (i j : ℕ) → dataAt g ≤ from g i j
+pub data-low : (g : Ring) (i j : ℕ) → dataAt g ≤ from g i j
 data-low g i j = omega arith
 
 size-some : {n : ℕ} {g : Ring} {i : ℕ} → Sound n g i → 0 < g .«data_length»
@@ -49,13 +49,13 @@ packet-low k = omega arith
 
 -- ---- the bytes after an accepted push of c at w
 
-abbrev withPacket : List ℕ → Ring → ℕ → List ℕ → List ℕ
+abbrev pub withPacket : List ℕ → Ring → ℕ → List ℕ → List ℕ
 withPacket s g w c = wrote s (writes (from g w) (packet c))
 
-abbrev withIndex : List ℕ → Ring → ℕ → List ℕ → List ℕ
+abbrev pub withIndex : List ℕ → Ring → ℕ → List ℕ → List ℕ
 withIndex s g w c = wrote (withPacket s g w c) (writes (straight (writeIndexAt g)) (littleEndian 4 (behind (g .«data_length») w (length c))))
 
-after-push : (s : List ℕ) (g : Ring) (w : ℕ) (c : List ℕ) → passed (pushNumber (length s) g (indexAt s (readIndexAt g)) w (length c)) (pushed [] g w c) refusal ≡ pushed [] g w c →
+pub after-push : (s : List ℕ) (g : Ring) (w : ℕ) (c : List ℕ) → passed (pushNumber (length s) g (indexAt s (readIndexAt g)) w (length c)) (pushed [] g w c) refusal ≡ pushed [] g w c →
     after s (pushRule s g w c) ≡ withIndex s g w c
 unfolding pushRule pushWrites
 after-push s g w c e = rw e (wrote-append s _ _)
@@ -75,7 +75,7 @@ module _ (s : List ℕ) (g : Ring) (w : ℕ) (c : List ℕ) (o : Sound (length s
   part m k h = bytes-part (withIndex s g w c) (from g w) (packetLength (length c)) m k h ∙ ap (λ (l : List ℕ). take k (drop m l)) packet-read
 
   -- so are its length and its content
-  length-read : lengthAt g w (withIndex s g w c) ≡ length c
+  pub length-read : lengthAt g w (withIndex s g w c) ≡ length c
   unfolding contentLength packet
   length-read =
       ap contentLength
@@ -83,7 +83,7 @@ module _ (s : List ℕ) (g : Ring) (w : ℕ) (c : List ℕ) (o : Sound (length s
       ∙ part 0 2 (omega (arith, packet-low (length c))))
       ∙ omega arith
 
-  content-read : (m : ℕ) → m ≤ length c → bytes (withIndex s g w c) (from g (w + 4)) m ≡ take m c
+  pub content-read : (m : ℕ) → m ≤ length c → bytes (withIndex s g w c) (from g (w + 4)) m ≡ take m c
   unfolding packet
   content-read m le =
       bytes-at-same (withIndex s g w c) (from g (w + 4)) (λ j. from g w (4 + j)) m (λ j _. ap (λ (x : ℕ). dataAt g + x % g .«data_length») (add-assoc w 4 j))
@@ -91,7 +91,7 @@ module _ (s : List ℕ) (g : Ring) (w : ℕ) (c : List ℕ) (o : Sound (length s
       ∙ take-append-le m c _ le
 
   -- and the index behind it
-  index-read : g .«data_length» < 4294967296 → partner g (withIndex s g w c) ≡ behind (g .«data_length») w (length c)
+  pub index-read : g .«data_length» < 4294967296 → partner g (withIndex s g w c) ≡ behind (g .«data_length») w (length c)
   unfolding indexAt behind
   index-read small =
       number-written (withPacket s g w c) (writeIndexAt g) 4 ((w + packetLength (length c)) % g .«data_length»)
@@ -115,7 +115,7 @@ module _ (s : List ℕ) (g : Ring) (w : ℕ) (c : List ℕ) (o : Sound (length s
       rw (look-flat g w (withIndex s g w c), index-read small, length-read, rule, ne-eqb i w moved-on, used-by-packet, le-leb k k (omega arith))
 
 -- as many of the content as fit b bytes
-take-that-fit : (c : List ℕ) (b : ℕ) → take (min (length c) b) c ≡ take b c
+pub take-that-fit : (c : List ℕ) (b : ℕ) → take (min (length c) b) c ≡ take b c
 take-that-fit c b =
     ap (λ (m : ℕ). take m c) (min-comm (length c) b)
     ∙ sym (bytes-first c (min b (length c)) (omega arith))
@@ -139,7 +139,7 @@ push-and-pull s g w c k i b small h =
 -- ---- a push leaves alone what is unread
 
 module _ (s : List ℕ) (g : Ring) (w : ℕ) (c : List ℕ) (o : Sound (length s) g w) where
-  unread-byte : (r : ℕ) → HasSpace (g .«data_length») r w (length c) → (j : ℕ) → j < used (g .«data_length») r w → getD (withIndex s g w c) (from g r j) 0 ≡ getD s (from g r j) 0
+  pub unread-byte : (r : ℕ) → HasSpace (g .«data_length») r w (length c) → (j : ℕ) → j < used (g .«data_length») r w → getD (withIndex s g w c) (from g r j) 0 ≡ getD s (from g r j) 0
   unfolding littleEndian
   unread-byte r h j lt =
       byte-kept (withPacket s g w c) (writes (straight (writeIndexAt g)) (littleEndian 4 (behind (g .«data_length») w (length c)))) (from g r j)
@@ -150,7 +150,7 @@ module _ (s : List ℕ) (g : Ring) (w : ℕ) (c : List ℕ) (o : Sound (length s
       let f : i < packetLength (length c) = rw (length-packet c) at l in
       wrapped-apart (dataAt g) (g .«data_length») r j (used (g .«data_length») r w + i) (omega arith) (omega (arith, h .fits, o .below)) (e ∙ further-on g r w i (h .below) (o .below))))
 
-  partner-kept : indexAt (withIndex s g w c) (readIndexAt g) ≡ indexAt s (readIndexAt g)
+  pub partner-kept : indexAt (withIndex s g w c) (readIndexAt g) ≡ indexAt s (readIndexAt g)
   unfolding indexAt littleEndian
   partner-kept =
       ap fromLittleEndian
