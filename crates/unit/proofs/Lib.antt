@@ -1,0 +1,5 @@
+pub mod OpeningCall
+pub mod OpenedUnits
+pub mod Units
+pub mod TwoUnits
+pub mod Promises
