@@ -16,10 +16,10 @@ panel = target/staticlib/libpanel.a
 script = target/staticlib/libscript.a
 rounds = target/staticlib/librounds.a
 compared = target/second/release/second
-shown = layout ring
+shown = layout ring unit
 examples = $(shown) hello script
 
-.PHONY: help demo starter panel library script_main script region need-file test examples-test packets second soak faults bench \
+.PHONY: help demo starter ladder panel library script_main script region need-file test examples-test packets second soak faults bench \
   measure instructions clean
 
 help: ## this list
@@ -27,16 +27,19 @@ help: ## this list
 
 # ---- to see it
 
-demo: $(shown:%=target/examples/%) target/bin/demo ## layout and ring from C, then two ends that bind an endpoint and pass messages
+demo: $(shown:%=target/examples/%) target/bin/demo ## layout, ring and units from C, then two ends that bind an endpoint and pass messages
 	@for name in $(shown); do target/examples/$$name; echo; done
 	@target/bin/demo
 
 starter: target/bin/starter ## run the program to begin one's own from, in Rattle
 	@target/bin/starter
 
+ladder: target/bin/ladder ## the same for plain units: a panel and the unit of a ladder truck in one process
+	@target/bin/ladder
+
 # ---- to use it
 
-panel: $(panel) ## the library for C, layout and ring: target/staticlib/libpanel.a
+panel: $(panel) ## the library for C, layout, ring and plain units: target/staticlib/libpanel.a
 library: $(panel) $(script) ## that, and the library that runs call scripts: target/staticlib/libscript.a
 script_main: target/bin/script_main ## the program that runs a call script from standard input: target/bin/script_main < FILE
 
@@ -68,7 +71,7 @@ second: $(panel) $(script) ## the second program, linked with the proved librari
 soak: second ## random traffic against the second program for MINUTES=n (10), from SEED=n on (the clock)
 	$(compared) soak --minutes $(MINUTES) $(if $(SEED),--seed $(SEED))
 
-faults: second ## faults planted in the second program, and how soon the traffic finds each
+faults: second ## faults planted in the second program, and how soon the comparison finds each
 	$(compared) faults
 
 # ---- to measure it
@@ -114,20 +117,21 @@ target/bin/%: $$(call files_of,$$*)
 	@touch $@
 
 # Each example is linked with the library whose functions it calls.
-target/examples/layout target/examples/ring target/examples/hello: $(panel)
+$(addprefix target/examples/,$(shown) hello): $(panel)
 target/examples/script: $(script)
-target/examples/%: examples/%.c include/petrelknob.h include/petrelknob_script.h
+target/examples/%: examples/%.c $(wildcard examples/*.h include/*.h)
 	@mkdir -p $(@D)
 	@gcc $(CFLAGS) -o $@ $< $(filter %.a,$^)
 
-target/bench/%.o: bench/%.c $(wildcard bench/*.h) include/petrelknob.h
+target/bench/%.o: bench/%.c $(wildcard bench/*.h include/*.h)
 	@mkdir -p $(@D)
 	@gcc $(CFLAGS) -Ibench -c -o $@ $<
 
 # Rattle's back end compiles at -O3, so the plain ring is measured at both.
+plain_calls = start push pull unit_start unit_push unit_receive
 target/bench/plain_ring_O3.o: bench/plain_ring.c $(wildcard bench/*.h)
 	@mkdir -p $(@D)
-	@gcc $(CFLAGS) -O3 $(foreach call,start push pull,-Dplain_$(call)=plain_$(call)_O3) -Ibench -c -o $@ $<
+	@gcc $(CFLAGS) -O3 $(foreach call,$(plain_calls),-Dplain_$(call)=plain_$(call)_O3) -Ibench -c -o $@ $<
 
 target/bench/ring: target/bench/ring.o target/bench/plain_ring.o target/bench/plain_ring_O3.o $(panel)
 target/bench/packets: target/bench/packets.o $(panel)

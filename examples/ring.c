@@ -1,16 +1,11 @@
 /* Two processes, as two cores would, talk through two regions of shared memory. Each starts its ring and waits for the other's start
  * packet; then the panel asks and the pump answers. Nothing but the regions is shared. The bytes are seen in the order in which they
  * are written because this is x86-64: docs/SHARED-MEMORY.md. */
-#define _DEFAULT_SOURCE
-#include <petrelknob.h>
-#include <stdio.h>
-#include <stdlib.h>
-#include <string.h>
-#include <sys/mman.h>
-#include <sys/wait.h>
-#include <unistd.h>
+#include "two_processes.h"
 
-enum { ALIGNMENT = 32, REGION_LENGTH = 2048, BUFFER_LENGTH = 1024, WAITS = 100000, PAUSE_MICROSECONDS = 100 };
+#include <string.h>
+
+enum { ALIGNMENT = 32, REGION_LENGTH = 2048, BUFFER_LENGTH = 1024 };
 
 /* The regions of the public specification's example: the panel transmits in the first and the pump in the second. */
 static const struct petrelknob_region to_pump = {0x20070000, 0x20070000 + REGION_LENGTH, 16, 32, ALIGNMENT};
@@ -21,14 +16,6 @@ struct side {
     const char *name;
     struct petrelknob_direction says, hears;
 };
-
-static void expect_accepted(const char *who, const char *call, uint32_t number)
-{
-    if (number == PETRELKNOB_ACCEPTED)
-        return;
-    printf("%s: %s refused, number %u: %s\n", who, call, (unsigned)number, petrelknob_meaning(number));
-    exit(1);
-}
 
 /* The buffers here take any packet, so that none is cut. */
 static void open_direction(const char *who, struct petrelknob_direction *direction, const struct petrelknob_region *region,
@@ -49,38 +36,34 @@ static void say(struct side *side, const char *text)
     expect_accepted(side->name, "push", petrelknob_direction_push(&side->says, text, strlen(text)));
 }
 
-/* Waits for the next packet, for ten seconds at least. A real link would wait for the other core's doorbell. */
+/* Waits for the next packet. */
 static size_t hear(struct side *side, uint8_t *content)
 {
     uint32_t at = side->hears.own_index;
     uint32_t number = PETRELKNOB_EMPTY;
     size_t length = 0;
-    for (int wait = 0; wait < WAITS && number == PETRELKNOB_EMPTY; wait++) {
-        if (wait > 0)
-            usleep(PAUSE_MICROSECONDS);
+    for (int tries = 0; number == PETRELKNOB_EMPTY && again(&tries);)
         number = petrelknob_direction_pull(&side->hears, content, BUFFER_LENGTH, &length);
-    }
     expect_accepted(side->name, "pull", number);
     printf("%s pulls  \"%.*s\" at read index %u\n", side->name, (int)length, (const char *)content, (unsigned)at);
     fflush(stdout);
     return length;
 }
 
-/* Starts this side's ring and waits for the partner's start packet, for ten seconds at least. Memory that nobody cleared may hold
- * anything until the partner starts its ring: each try begins at read index 0, where its start packet will be. */
+/* Starts this side's ring and waits for the partner's start packet. Memory that nobody cleared may hold anything until the partner
+ * starts its ring: each try begins at read index 0, where its start packet will be. */
 static void meet(struct side *side)
 {
     uint8_t content[BUFFER_LENGTH];
     size_t length;
     expect_accepted(side->name, "start", petrelknob_direction_start(&side->says));
-    for (int wait = 0; wait < WAITS; wait++) {
+    for (int tries = 0; again(&tries);) {
         struct petrelknob_direction hears = side->hears;
         if (petrelknob_direction_pull(&hears, content, sizeof content, &length) == PETRELKNOB_ACCEPTED &&
             petrelknob_is_start(content, length)) {
             side->hears = hears;
             return;
         }
-        usleep(PAUSE_MICROSECONDS);
     }
     printf("%s: the partner has not started its ring\n", side->name);
     exit(1);
@@ -101,8 +84,9 @@ static const char *const questions[] = {"pressure?", "flow?", "calibration set b
 static const char *const answers[] = {"7.2 bar", "1,240 l/min", "taken", "bye"};
 enum { ROUNDS = sizeof questions / sizeof questions[0] };
 
-static void pump(struct side side)
+static void pump(uint8_t *says, uint8_t *hears)
 {
+    struct side side = open_side("  pump", &to_panel, says, &to_pump, hears);
     uint8_t content[BUFFER_LENGTH];
     for (int i = 0; i < ROUNDS; i++) {
         size_t length = hear(&side, content);
@@ -111,8 +95,9 @@ static void pump(struct side side)
     }
 }
 
-static void panel(struct side side)
+static void panel(uint8_t *says, uint8_t *hears)
 {
+    struct side side = open_side("panel ", &to_pump, says, &to_panel, hears);
     uint8_t content[BUFFER_LENGTH];
     printf("panel  has pulled the pump's start packet: write index %u, read index %u\n", (unsigned)side.says.own_index,
            (unsigned)side.hears.own_index);
@@ -120,12 +105,6 @@ static void panel(struct side side)
         say(&side, questions[i]);
         hear(&side, content);
     }
-}
-
-static uint32_t told(const char *what, uint32_t number)
-{
-    printf("%s: number %u, %s\n", what, (unsigned)number, petrelknob_meaning(number));
-    return number;
 }
 
 /* The longest content of an empty ring, and a partner that breaks the rules: refused by number. A broken packet is dropped, and what is
@@ -159,34 +138,10 @@ static int limits(uint8_t *memory)
     return one_more && as_many && broken && goes_on && bad_index ? 0 : 1;
 }
 
-static uint8_t *share(void)
-{
-    void *memory = mmap(NULL, REGION_LENGTH, PROT_READ | PROT_WRITE, MAP_SHARED | MAP_ANONYMOUS, -1, 0);
-    if (memory == MAP_FAILED) {
-        perror("mmap");
-        exit(1);
-    }
-    return memory;
-}
-
 int main(void)
 {
-    uint8_t *to_pump_memory = share(), *to_panel_memory = share();
+    uint8_t *to_pump_memory = share(REGION_LENGTH), *to_panel_memory = share(REGION_LENGTH);
     puts("RINGS. Two processes talk through the rings of these regions\n");
-    fflush(stdout);
-    pid_t child = fork();
-    if (child < 0) {
-        perror("fork");
-        return 1;
-    }
-    if (child == 0) {
-        pump(open_side("  pump", &to_panel, to_panel_memory, &to_pump, to_pump_memory));
-        exit(0);
-    }
-    panel(open_side("panel ", &to_pump, to_pump_memory, &to_panel, to_panel_memory));
-
-    int status;
-    if (waitpid(child, &status, 0) != child || status != 0)
-        return 1;
+    run_both(panel, to_pump_memory, pump, to_panel_memory);
     return limits(to_pump_memory);
 }

@@ -1,9 +1,17 @@
 /* Petrelknob: one end of a two-core link over shared memory (Zephyr ICMsg and ICBMsg). For C99 and C++.
  *
- * Link with libpanel.a (make panel), which is for x86-64 Linux. It has layout and ring; blocks and endpoints are not for C yet.
+ * Link with libpanel.a (make panel), which is for x86-64 Linux. What to call depends on what the partner speaks:
  *
- * There are two ways to call. A struct petrelknob_direction, at the end of this file, keeps what belongs to one direction of a link,
- * and its calls are short: begin there. The functions before it take every number at every call, and keep nothing.
+ * ICBMsg        a region has a ring and blocks, as in a pump box: petrelknob_layout, petrelknob_start, petrelknob_push,
+ *               petrelknob_pull, and struct petrelknob_direction. Blocks and endpoints are not for C yet
+ * plain ICMsg   the whole region is ring and packets hold the data itself, as with the units of the ladder trucks:
+ *               petrelknob_unit_open, petrelknob_unit_start, petrelknob_unit_push, petrelknob_unit_receive, and struct petrelknob_plain
+ *
+ * They differ where a packet is longer than the buffer: pull cuts it to the buffer and takes it, receive leaves it on the ring and
+ * says 26.
+ *
+ * There are two ways to call. The struct keeps what belongs to one direction of a link, or to one side of a plain one, and its calls
+ * are short: begin there. The functions before it take every number at every call, and keep nothing.
  *
  * The exported functions are proved: each takes any numbers and any slices, ends, and touches nothing but the slices that it is
  * lent. There is no hidden state and nothing to free. The inline functions are a few lines of plain C over them.
@@ -14,79 +22,14 @@
 #ifndef PETRELKNOB_H
 #define PETRELKNOB_H
 
+#include "petrelknob_numbers.h" /* what the calls return */
+
 #include <stddef.h>
 #include <stdint.h>
 
 #ifdef __cplusplus
 extern "C" {
 #endif
-
-/* ---- numbers */
-
-/* What a call returns: 0, or the number of the first check that failed. petrelknob_meaning has a sentence for each; layout and
- * ring give 1 to 4 and 6 to 11, the others are of a whole end. A refused call changes no byte but those of its answer. */
-enum petrelknob_number {
-    PETRELKNOB_ACCEPTED = 0,
-    PETRELKNOB_BAD_ALIGNMENT = 1,
-    PETRELKNOB_BAD_BLOCK_COUNT = 2,
-    PETRELKNOB_BAD_BOUNDS = 3,
-    PETRELKNOB_TOO_SMALL = 4,
-    PETRELKNOB_OVERLAP = 5,
-    PETRELKNOB_WRONG_REGION = 6,
-    PETRELKNOB_BAD_INDEX = 7,
-    PETRELKNOB_EMPTY = 8,
-    PETRELKNOB_BROKEN_PACKET = 9,
-    PETRELKNOB_FULL = 10,
-    PETRELKNOB_TOO_LONG = 11,
-    PETRELKNOB_TOO_SHORT = 12,
-    PETRELKNOB_UNKNOWN_KIND = 13,
-    PETRELKNOB_BAD_ADDRESS = 14,
-    PETRELKNOB_NOT_BOUND = 15,
-    PETRELKNOB_BAD_BLOCK = 16,
-    PETRELKNOB_PAST_THE_LAST_BLOCK = 17,
-    PETRELKNOB_BLOCK_HELD = 18,
-    PETRELKNOB_NOT_FOLLOWER = 19,
-    PETRELKNOB_BAD_NAME = 20,
-    PETRELKNOB_NAME_TAKEN = 21,
-    PETRELKNOB_NO_PLACE = 22,
-    PETRELKNOB_CANNOT_FIT = 23,
-    PETRELKNOB_NO_ROOM = 24,
-    PETRELKNOB_NO_MESSAGE = 25
-};
-
-/* What a number means, in words. Any number has an answer. */
-static inline const char *petrelknob_meaning(uint32_t number)
-{
-    switch (number) {
-    case PETRELKNOB_ACCEPTED: return "accepted";
-    case PETRELKNOB_BAD_ALIGNMENT: return "the alignment is no power of two from 4 to 256";
-    case PETRELKNOB_BAD_BLOCK_COUNT: return "a block count is not from 1 to 256";
-    case PETRELKNOB_BAD_BOUNDS: return "the region's begin is not below its end, or it has over 1,048,576 bytes";
-    case PETRELKNOB_TOO_SMALL: return "the region is too small for its ring and for blocks of one alignment each";
-    case PETRELKNOB_OVERLAP: return "the two regions share a byte";
-    case PETRELKNOB_WRONG_REGION: return "the lent bytes are not the whole region, the own index is out of rule, or the end is closed";
-    case PETRELKNOB_BAD_INDEX: return "the partner's index is not below the data length, or no multiple of 4";
-    case PETRELKNOB_EMPTY: return "nothing on the ring is unread";
-    case PETRELKNOB_BROKEN_PACKET: return "the next packet is longer than the unread bytes, and all of them are dropped";
-    case PETRELKNOB_FULL: return "the packet does not fit beside the unread bytes";
-    case PETRELKNOB_TOO_LONG: return "the content has over 65,535 bytes";
-    case PETRELKNOB_TOO_SHORT: return "the control message is too short";
-    case PETRELKNOB_UNKNOWN_KIND: return "the control message is of unknown kind";
-    case PETRELKNOB_BAD_ADDRESS: return "the address is above 0xFD";
-    case PETRELKNOB_NOT_BOUND: return "no bound endpoint has the address";
-    case PETRELKNOB_BAD_BLOCK: return "the block number is not below the block count";
-    case PETRELKNOB_PAST_THE_LAST_BLOCK: return "the message runs past the last block";
-    case PETRELKNOB_BLOCK_HELD: return "a block of the arriving message is held";
-    case PETRELKNOB_NOT_FOLLOWER: return "a binding was sent to an initiator";
-    case PETRELKNOB_BAD_NAME: return "the name is outside the limits, or not zero-ended";
-    case PETRELKNOB_NAME_TAKEN: return "the name, or the address that comes with it, is taken";
-    case PETRELKNOB_NO_PLACE: return "all eight places for endpoints, or for stored bindings, are taken";
-    case PETRELKNOB_CANNOT_FIT: return "the message is longer than can ever fit";
-    case PETRELKNOB_NO_ROOM: return "no run of free blocks is long enough";
-    case PETRELKNOB_NO_MESSAGE: return "no message starts there in the state that the call needs";
-    default: return "no such number";
-    }
-}
 
 /* ---- layout */
 
@@ -128,11 +71,11 @@ static inline uint32_t petrelknob_largest_content(uint32_t data_length)
 
 /* ---- ring */
 
-/* Where each value of a start, a push or a pull stands in `answer`. */
+/* Where each value of a start, a push, a pull or a unit's receive stands in `answer`. */
 enum petrelknob_ring_value {
-    PETRELKNOB_LENGTH = 0,    /* start: 13; push: the content's length; pull: the packet's whole length; 0 on a refusal */
+    PETRELKNOB_LENGTH = 0,    /* start: 13; push, receive: the content's length; pull: the packet's whole length; 0 on a refusal */
     PETRELKNOB_OWN_INDEX = 1, /* the own index after the call, to be handed in at the next; on a refusal but 9 as it was, of start 0 */
-    PETRELKNOB_DROPPED = 2,   /* pull, on 9: how many unread bytes were dropped; else 0 */
+    PETRELKNOB_DROPPED = 2,   /* pull, receive, on 9: how many unread bytes were dropped; else 0 */
     PETRELKNOB_RING_VALUES = 3
 };
 
@@ -271,6 +214,151 @@ static inline uint32_t petrelknob_direction_pull(struct petrelknob_direction *di
                                       (uint8_t *)buffer, buffer_length, answer, PETRELKNOB_RING_VALUES);
     direction->own_index = answer[PETRELKNOB_OWN_INDEX]; /* as it was, where nothing was taken or dropped */
     direction->dropped = answer[PETRELKNOB_DROPPED];
+    *length = answer[PETRELKNOB_LENGTH];
+    return number;
+}
+
+/* ---- plain units */
+
+/* The data bytes of a plain region's ring: all from begin, rounded up to the alignment, to end, rounded down, but for the alignment + 4
+ * bytes of the indexes. A ring has at least 24; 0 is answered where the region is refused, by 1, 3 or 4. */
+static inline uint32_t petrelknob_unit_data_length(uint32_t begin, uint32_t end, uint32_t alignment)
+{
+    uint32_t not_data; /* at most 255 + 255 + 260, so that nothing wraps */
+    if (alignment < 4 || alignment > 256 || (alignment & (alignment - 1)) != 0 || begin >= end || end - begin > 1048576)
+        return 0;
+    not_data = (alignment - begin % alignment) % alignment + end % alignment + alignment + 4;
+    return end - begin < not_data + 24 ? 0 : end - begin - not_data;
+}
+
+/* Says whether a plain unit can be opened with these numbers: regions to transmit and to receive in, and the alignment of both.
+ *
+ * Returns 0, or the number of the first check that fails: 1, 3, 4 of the region to transmit in, 1, 3, 4 of the other, then 5 of both,
+ * which may touch. No memory is read or written, and nothing is kept. The partner opens with the two regions swapped.
+ */
+uint32_t petrelknob_unit_open(uint32_t tx_begin, uint32_t tx_end, uint32_t rx_begin, uint32_t rx_end, uint32_t alignment);
+
+/* Starts the ring of a region that this side transmits in, as petrelknob_start does. Returns 0, or the number of the first check that
+ * fails, in the order 1, 3, 4, 6; then no byte of region is changed.
+ *
+ * begin, end, alignment   the region's numbers, as it is opened with
+ * region, answer          as for petrelknob_start
+ */
+uint32_t petrelknob_unit_start(uint32_t begin, uint32_t end, uint32_t alignment, uint8_t *region, size_t region_length,
+                               uint32_t *answer, size_t answer_length);
+
+/* Puts one packet on the ring of a region that this side transmits in. All is as for petrelknob_push, but that it returns 0, or the
+ * number of the first check that fails, in the order 1, 3, 4, 6, 11, 7, 10. */
+uint32_t petrelknob_unit_push(uint32_t begin, uint32_t end, uint32_t alignment, uint32_t own_index, uint8_t *region,
+                              size_t region_length, const uint8_t *content, size_t content_length, uint32_t *answer,
+                              size_t answer_length);
+
+/* Takes the next packet off the ring of a region that this side receives in, a start packet like any other.
+ *
+ * own_index            this side's read index: 0 at first, then what the last receive answered
+ * buffer               gets the whole content; its other bytes stay. Where it is shorter than the content, the packet stays on the
+ *                      ring, which is 26: the same call with a longer buffer takes it
+ *
+ * Returns 0, or the number of the first check that fails, in the order 1, 3, 4, 6, 7, 8, 9, 26; then no byte of region and buffer is
+ * changed, but for 9, which drops all unread bytes as in petrelknob_pull. The two slices, and answer, must not overlap.
+ */
+uint32_t petrelknob_unit_receive(uint32_t begin, uint32_t end, uint32_t alignment, uint32_t own_index, uint8_t *region,
+                                 size_t region_length, uint8_t *buffer, size_t buffer_length, uint32_t *answer,
+                                 size_t answer_length);
+
+/* What a plain unit is opened with. */
+struct petrelknob_plain_numbers {
+    uint32_t tx_begin, tx_end;
+    uint32_t rx_begin, rx_end;
+    uint32_t alignment;
+};
+
+/* One side of a plain link (examples/unit.c), in memory of its own, so that the partner cannot reach the own indexes. Open it, then
+ * leave its fields to the calls; to read them is fine. */
+struct petrelknob_plain {
+    struct petrelknob_plain_numbers numbers;
+    uint32_t refused;        /* the number that open returned: 0 where it is open */
+    uint8_t *tx_memory;      /* the first byte of the region to transmit in, wherever this side sees it */
+    uint8_t *rx_memory;      /* that of the region to receive in */
+    size_t tx_length;        /* bytes there, which must be all of the region */
+    size_t rx_length;
+    uint32_t tx_data_length; /* of the ring; 0 where that region is refused. Its petrelknob_largest_content can be pushed */
+    uint32_t rx_data_length; /* likewise; a buffer of its petrelknob_largest_content never meets 26 */
+    uint32_t write_index;    /* the own index of the ring to transmit in */
+    uint32_t read_index;     /* that of the ring to receive in */
+    uint32_t dropped;        /* unread bytes that the last receive dropped: 0, but where it was 9 */
+};
+
+/* Makes the unit ready, both own indexes 0. No byte of memory is read or written. Returns what petrelknob_unit_open does, or 6 where a
+ * length is not that of its region; a null pointer counts as no bytes. A unit that is refused stays so: each call on it gives that
+ * number again.
+ */
+static inline uint32_t petrelknob_plain_open(struct petrelknob_plain *plain, const struct petrelknob_plain_numbers *numbers,
+                                             void *tx_memory, size_t tx_length, void *rx_memory, size_t rx_length)
+{
+    plain->numbers = *numbers;
+    plain->refused = petrelknob_unit_open(numbers->tx_begin, numbers->tx_end, numbers->rx_begin, numbers->rx_end,
+                                          numbers->alignment);
+    plain->tx_memory = (uint8_t *)tx_memory;
+    plain->rx_memory = (uint8_t *)rx_memory;
+    plain->tx_length = tx_memory ? tx_length : 0;
+    plain->rx_length = rx_memory ? rx_length : 0;
+    plain->tx_data_length = petrelknob_unit_data_length(numbers->tx_begin, numbers->tx_end, numbers->alignment);
+    plain->rx_data_length = petrelknob_unit_data_length(numbers->rx_begin, numbers->rx_end, numbers->alignment);
+    plain->write_index = 0;
+    plain->read_index = 0;
+    plain->dropped = 0;
+    if (plain->refused == PETRELKNOB_ACCEPTED && (plain->tx_length != numbers->tx_end - numbers->tx_begin ||
+                                                  plain->rx_length != numbers->rx_end - numbers->rx_begin))
+        plain->refused = PETRELKNOB_WRONG_REGION;
+    return plain->refused;
+}
+
+/* Starts the ring (petrelknob_unit_start). Returns its number; where it is not 0, the write index stays. */
+static inline uint32_t petrelknob_plain_start(struct petrelknob_plain *plain)
+{
+    const struct petrelknob_plain_numbers *numbers = &plain->numbers;
+    uint32_t number = plain->refused;
+    uint32_t answer[PETRELKNOB_RING_VALUES];
+    if (number == PETRELKNOB_ACCEPTED)
+        number = petrelknob_unit_start(numbers->tx_begin, numbers->tx_end, numbers->alignment, plain->tx_memory,
+                                       plain->tx_length, answer, PETRELKNOB_RING_VALUES);
+    if (number == PETRELKNOB_ACCEPTED)
+        plain->write_index = answer[PETRELKNOB_OWN_INDEX];
+    return number;
+}
+
+/* Pushes the content (petrelknob_unit_push). Returns its number; where it is not 0, the write index stays. */
+static inline uint32_t petrelknob_plain_push(struct petrelknob_plain *plain, const void *content, size_t content_length)
+{
+    const struct petrelknob_plain_numbers *numbers = &plain->numbers;
+    uint32_t number = plain->refused;
+    uint32_t answer[PETRELKNOB_RING_VALUES];
+    if (number == PETRELKNOB_ACCEPTED)
+        number = petrelknob_unit_push(numbers->tx_begin, numbers->tx_end, numbers->alignment, plain->write_index,
+                                      plain->tx_memory, plain->tx_length, (const uint8_t *)content, content_length, answer,
+                                      PETRELKNOB_RING_VALUES);
+    if (number == PETRELKNOB_ACCEPTED)
+        plain->write_index = answer[PETRELKNOB_OWN_INDEX];
+    return number;
+}
+
+/* Receives the next packet (petrelknob_unit_receive): *length gets the content's length. Returns its number; where it is not 0, *length
+ * is 0 and the read index stays, but on 9 all that is unread is dropped: plain->dropped says how many bytes, and the next receive goes
+ * on behind them.
+ */
+static inline uint32_t petrelknob_plain_receive(struct petrelknob_plain *plain, void *buffer, size_t buffer_length,
+                                                size_t *length)
+{
+    const struct petrelknob_plain_numbers *numbers = &plain->numbers;
+    uint32_t number = plain->refused;
+    uint32_t answer[PETRELKNOB_RING_VALUES] = {0, plain->read_index, 0};
+    if (number == PETRELKNOB_ACCEPTED)
+        number = petrelknob_unit_receive(numbers->rx_begin, numbers->rx_end, numbers->alignment, plain->read_index,
+                                         plain->rx_memory, plain->rx_length, (uint8_t *)buffer, buffer_length, answer,
+                                         PETRELKNOB_RING_VALUES);
+    plain->read_index = answer[PETRELKNOB_OWN_INDEX]; /* as it was, where nothing was taken or dropped */
+    plain->dropped = answer[PETRELKNOB_DROPPED];
     *length = answer[PETRELKNOB_LENGTH];
     return number;
 }

@@ -41,7 +41,7 @@ enum petrelknob_record {
 
 /* Where each number stands in a row. Number i is in the bytes from 4 * i on, little-endian. */
 enum petrelknob_row_value {
-    PETRELKNOB_ROW_NUMBER = 0,      /* 0, or the refusal number, 1 to 25: petrelknob_number, in petrelknob.h */
+    PETRELKNOB_ROW_NUMBER = 0,      /* 0, or the refusal number, 1 to 25: petrelknob_numbers.h */
     PETRELKNOB_ROW_VALUES = 1,      /* how many of the four values count */
     PETRELKNOB_ROW_VALUE_1 = 2,     /* the values; those behind the last that counts are 0 */
     PETRELKNOB_ROW_VALUE_2 = 3,

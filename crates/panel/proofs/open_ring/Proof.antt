@@ -1,57 +1,53 @@
 use native.Mathlib.Omega.{arith}
-use Rattle.panel.proofs.Opening.{layout-refused, some-bytes, ring-inside, wrong-slice, whole-slice, ring-opened}
+use Rattle.panel.proofs.Opening.{layout-refused, lies-there, wrong-slice, whole-slice, ring-opened}
 use borrow.Author.Needs.{needs}
 use Rattle.panel.proofs.open_ring.Statement.{statement}
 use Rattle.panel.proofs.open_ring.Tie as tie
 
-layout-requires : tie.Need-layout-requires
-layout-requires c κs = search needs
+enum-known-layout : tie.Need-enum-known-layout
+enum-known-layout c = search needs
 
-enum-known-x : tie.Need-enum-known-x
-enum-known-x c = search needs
-
-enum-known-y : tie.Need-enum-known-y
-enum-known-y c = search needs
+enum-known-layout-2 : tie.Need-enum-known-layout-2
+enum-known-layout-2 c = search needs
 
 sub-if1 : tie.Need-sub-if1
 sub-if1 c =
     let y = c .before in
-    let h = some-bytes _ _ _ _ _ _ (y .before .before .layout .ensures) _ (y .y .given .1) in
-    omega arith
+    let s = y .before .before in
+    let h = lies-there (s .args .layout) (s .args .begin) (s .args .end) _ (y .layout2 .given .1) (s .pre) in
+    omega (arith, h .0)
 
 cast-if1 : tie.Need-cast-if1
 cast-if1 c = search needs
 
-sub-t15 : tie.Need-sub-t15
-sub-t15 c =
+sub-t13 : tie.Need-sub-t13
+sub-t13 c =
     let y = c .before .before .before in
-    let h = ring-inside _ _ _ _ _ _ (y .before .before .layout .ensures) _ (y .y .given .1) in
-    omega arith
+    let s = y .before .before in
+    let h = lies-there (s .args .layout) (s .args .begin) (s .args .end) _ (y .layout2 .given .1) (s .pre) in
+    omega (arith, h .1)
 
 returns : tie.Need-returns
-returns c = (layout-refused _ _ _ _ _ _ (c .before .before .before .layout .ensures) _ _ (c .before .x .given .1), tt)
+returns c = (layout-refused _ _ _ _ _ (c .before .layout .given .1), tt)
 
 returns-2 : tie.Need-returns-2
 returns-2 c =
     let y = c .before .before .before in
-    let l = y .before .before in
-    (whole-slice _ _ _ _ _ _ (l .layout .ensures) _ (y .y .given .1) _ (c .before .if1 .taken), ring-opened _ _ _ _ _ _ (l .layout .ensures) _ (y .y .given .1))
+    let s = y .before .before .args in
+    (whole-slice _ _ _ _ (y .layout2 .given .1) _ (c .before .if1 .taken), ring-opened (s .layout) (s .begin) (s .end) _ (y .layout2 .given .1) (s .alignment))
 
 returns-3 : tie.Need-returns-3
-returns-3 c =
-    let y = c .before .before in
-    (wrong-slice _ _ _ _ _ _ (y .before .before .layout .ensures) _ (y .y .given .1) _ (c .if1 .left), tt)
+returns-3 c = (wrong-slice _ _ _ _ (c .before .before .layout2 .given .1) _ (c .if1 .left), tt)
 
 pub open-ring-spec : {M : Type 1} → statement M
 open-ring-spec =
     tie.close
     (tie.spec
-    layout-requires
-    enum-known-x
-    enum-known-y
+    enum-known-layout
+    enum-known-layout-2
     sub-if1
     cast-if1
-    sub-t15
+    sub-t13
     returns
     returns-2
     returns-3)

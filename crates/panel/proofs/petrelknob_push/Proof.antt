@@ -1,66 +1,53 @@
-use mathlib.Core.Path.{refl}
-use Rattle.wire.specs.Bytes.{wrote}
-use Rattle.panel.specs.Calls.{pushCall}
-use Rattle.panel.proofs.Opening.{call-refused, call-open, ring-is}
+use native.Mathlib.Omega.{arith}
+use lib.ListN.{take, length-take}
+use Rattle.region.specs.Layout.{outcomeOf}
+use Rattle.icmsg.specs.Rules.{pushRule}
+use Rattle.panel.specs.Calls.{ringIn, pushCall}
+use Rattle.panel.proofs.Opening.{layout-lies, call-is, long-enough}
 use borrow.Author.Needs.{needs}
 use Rattle.panel.proofs.petrelknob_push.Statement.{statement}
 use Rattle.panel.proofs.petrelknob_push.Tie as tie
 
+layout-requires : tie.Need-layout-requires
+layout-requires c κs = search needs
+
 open-ring-requires : tie.Need-open-ring-requires
-open-ring-requires c κs = search needs
+open-ring-requires c κs = rw (c .layout .ensures) (layout-lies _ _ _ _ _)
 
-enum-known-x : tie.Need-enum-known-x
-enum-known-x c = search needs
+least-requires : tie.Need-least-requires
+least-requires c κs = search needs
 
-give-requires : tie.Need-give-requires
-give-requires c κs = search needs
+slice-aggregate-push-on : tie.Need-slice-aggregate-push-on
+slice-aggregate-push-on c = simp length-take (omega arith)
 
-enum-known-ring : tie.Need-enum-known-ring
-enum-known-ring c = search needs
-
-push-requires : tie.Need-push-requires
-push-requires c κs = search needs
-
-give-requires-2 : tie.Need-give-requires-2
-give-requires-2 c κs = search needs
+push-on-requires : tie.Need-push-on-requires
+push-on-requires c κs = search needs
 
 same-length : tie.Need-same-length
 same-length c = search needs
 
-returns : tie.Need-returns
-unfolding pushCall wrote
-returns c =
-    let g = c .before .before in
-    let x = g .before .before .before in
-    rw (call-refused _ _ _ (x .before .before .open-ring .ensures .0) _ (x .x .given .1)) (g .give .ensures .0, (refl, g .give .ensures .1))
-
 same-length-2 : tie.Need-same-length-2
 same-length-2 c = search needs
 
-same-length-3 : tie.Need-same-length-3
-same-length-3 c = search needs
-
-returns-2 : tie.Need-returns-2
+returns : tie.Need-returns
 unfolding pushCall
-returns-2 c =
-    let g = c .before .before in
-    let p = g .before .before .before .before in
-    let r = p .before .before .before in
-    let o = r .before .before in
-    rw (call-open _ _ _ (o .open-ring .ensures .0) _ (r .ring .given .1), ← ring-is _ _ _ (o .open-ring .ensures .1) (r .ring .given .1), ← p .push .ensures .0) (g .give2 .ensures .0, (p .push .ensures .1, g .give2 .ensures .1))
+returns c =
+    let p = c .before .before .before .before in
+    let l = p .before .before .before .before in
+    let o = l .before in
+    let a = o .before .before .before .before .before .args in
+    let enough = long-enough (a .region .now) (ringIn (outcomeOf (o .before .layout .result)) (a .begin) (a .alignment)) (a .own) (a .content .now) (l .least .result) (l .least .ensures .0) in
+    rw (← o .before .layout .ensures, ← enough, ← call-is (o .open-ring .result) _ _ (λ g. pushRule (a .region .now) g (a .own) (take (l .least .result) (a .content .now))) (o .open-ring .ensures .0) (o .open-ring .ensures .1)) (p .push-on .ensures)
 
 pub petrelknob-push-spec : {M : Type 1} → statement M
 petrelknob-push-spec =
     tie.close
     (tie.spec
+    layout-requires
     open-ring-requires
-    enum-known-x
-    give-requires
-    enum-known-ring
-    push-requires
-    give-requires-2
+    least-requires
+    slice-aggregate-push-on
+    push-on-requires
     same-length
-    returns
     same-length-2
-    same-length-3
-    returns-2)
+    returns)
