@@ -13,7 +13,7 @@ use std::process::ExitCode;
 use std::time::Duration;
 
 use compare::traffic::{self, in_script_main};
-use compare::{layout, looking, ring, Report, Settings};
+use compare::{layout, looking, ring, unit, Report, Settings};
 use link::layout::LARGEST_REGION;
 use link::script::ROW_BYTES;
 use options::{parse, Bounds, Task};
@@ -21,34 +21,36 @@ use options::{parse, Bounds, Task};
 type Comparison = fn(&Settings, &mut Report);
 
 /// The comparisons there are, by the word that asks for one alone.
-const COMPARISONS: [(&str, Comparison); 5] = [
+const COMPARISONS: [(&str, Comparison); 6] = [
     ("layout", layout::run),
     ("ring", ring::run),
+    ("unit", unit::run),
     ("end", traffic::run),
     ("look", looking::run),
     ("faults", traffic::run_faults),
 ];
 
 const USAGE: &str = "\
-usage: second [layout | ring | end | look | faults]... [--seed N] [--cases N] [--calls N] [--fault NAME]
+usage: second [layout | ring | unit | end | look | faults]... [--seed N] [--cases N] [--calls N] [--fault NAME]
        second soak --minutes N [--seed N] [--fault NAME]
        second script FILE [--rows N] [--fault NAME]
        second region FILE [--begin N] [--end N] [--local-blocks N] [--remote-blocks N] [--alignment N]
 
 Without a word all comparisons run:
   layout, ring  with the proved functions of the panel
+  unit          plain units, with the proved functions of the panel
   end           random traffic: call scripts, run by both sides
   look          what script and region print
-  faults        plants faults in the second implementation; the traffic must find them
+  faults        plants faults in the second implementation; traffic and unit must find them
 soak            traffic with one seed after the other, until the time is over
 script          runs one call script with the slices of script_main and shows it in words
 region          shows a dump of one region, its bytes from raw begin to raw end, in words
 
 --seed N        decides all random inputs (1; of soak, the clock)
---cases N       random cases of layout and of ring, at least 1
+--cases N       random cases of layout, of ring and of unit, at least 1
 --calls N       calls of the traffic, at least 1
---fault NAME    traffic against the second implementation itself with this fault, as listed by
-                faults, to see what a failure looks like
+--fault NAME    traffic and units against the second implementation itself with this fault, as
+                listed by faults, to see what a failure looks like
 --rows N        space for so many rows (for all)
 --begin N       the region's raw begin (0x20070000)
 --end N         its raw end (begin and the file's length)

@@ -2,8 +2,7 @@
 
 use std::time::{SystemTime, UNIX_EPOCH};
 
-use crate::compare::traffic::Opponent;
-use crate::compare::Settings;
+use crate::compare::{Opponent, Settings};
 use crate::link::fault::Fault;
 use crate::link::layout::Request;
 
@@ -162,9 +161,8 @@ fn number(text: &str) -> Option<u32> {
 
 /// The second implementation with the fault of that name.
 fn planted(name: &str) -> Option<Opponent> {
-    let mut faults = Fault::ALL.iter();
-    let fault = faults.find(|fault| fault.name() == name)?;
-    Some(Opponent::Planted(*fault))
+    let fault = Fault::all().find(|fault| fault.name() == name)?;
+    Some(Opponent::Planted(fault))
 }
 
 /// A seed that nobody chose.

@@ -2,6 +2,7 @@
 
 pub mod layout;
 pub mod looking;
+mod opponent;
 mod proved;
 mod random;
 mod report;
@@ -9,20 +10,20 @@ pub mod ring;
 mod tally;
 pub mod traffic;
 mod twin;
+pub mod unit;
 
+pub use opponent::Opponent;
 pub use report::Report;
-
-use traffic::Opponent;
 
 /// What decides how a comparison runs.
 pub struct Settings {
     /// Decides all random inputs.
     pub seed: u64,
-    /// Random inputs of the layout and of the ring comparison, divided among
-    /// their mixtures.
+    /// Random inputs of the layout, of the ring and of the unit comparison,
+    /// divided among their mixtures.
     pub cases: u64,
     /// Calls of the random traffic, divided among its kinds.
     pub calls: u64,
-    /// What the traffic is compared with.
+    /// What the traffic and the units are compared with.
     pub opponent: Opponent,
 }

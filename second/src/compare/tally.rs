@@ -1,13 +1,13 @@
 //! How often each outcome occurred.
 
 use crate::compare::report::Group;
-use crate::link::refusal::outcome_name;
+use crate::link::refusal::{outcome_name, Refusal};
 
 /// Every outcome must occur this often in a run.
 const LEAST_OCCURRENCES: u64 = 100;
 
-/// The outcomes there are: accepted, and the refusals 1 to 25.
-const OUTCOMES: usize = 26;
+/// The outcomes there are: accepted, and each refusal.
+const OUTCOMES: usize = Refusal::ALL.len() + 1;
 
 #[derive(Default)]
 pub struct Tally {

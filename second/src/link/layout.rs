@@ -3,7 +3,9 @@
 //! All sizes are whole numbers (`i64`, far wider than any value here), so
 //! nothing wraps and a difference may be negative.
 
-use crate::link::refusal::Refusal;
+use std::ops::Range;
+
+use crate::link::refusal::{refuse, Refusal};
 
 /// The good alignments: the powers of two from 4 to 256.
 pub const ALIGNMENTS: [u32; 7] = [4, 8, 16, 32, 64, 128, 256];
@@ -39,23 +41,45 @@ pub struct Layout {
     pub end: u32,
 }
 
+/// Where a ring lies in its raw region.
+pub struct RingPlace {
+    /// Bytes of the whole raw region.
+    pub raw_length: usize,
+    pub read_index: usize,
+    pub write_index: usize,
+    pub data: Range<usize>,
+}
+
+/// A region that has a ring, before blocks or alone.
+pub trait Ringed {
+    /// Where its ring is, or the first refusal that applies to its numbers.
+    fn ring_place(&self) -> Result<RingPlace, Refusal>;
+}
+
+impl Ringed for Request {
+    fn ring_place(&self) -> Result<RingPlace, Refusal> {
+        let layout = lay_out(self)?;
+        let offset = |address: u32| (address - self.begin) as usize;
+        let read_index = offset(layout.begin);
+        let header = ring_header(self.alignment.into()) as usize;
+        Ok(RingPlace {
+            raw_length: offset(self.end),
+            read_index,
+            write_index: read_index + self.alignment as usize,
+            data: read_index + header..offset(layout.blocks_begin),
+        })
+    }
+}
+
 /// Lays a region out, or gives the first refusal that applies.
 pub fn lay_out(request: &Request) -> Result<Layout, Refusal> {
-    if !ALIGNMENTS.contains(&request.alignment) {
-        return Err(Refusal::BadAlignment);
-    }
+    check_alignment(request.alignment)?;
     let good_counts = 1..=MOST_BLOCKS;
     if !good_counts.contains(&request.local_blocks) || !good_counts.contains(&request.remote_blocks)
     {
         return Err(Refusal::BadBlockCount);
     }
-
-    // The limits of a region are those of the raw one, before rounding.
-    let raw_begin = i64::from(request.begin);
-    let raw_end = i64::from(request.end);
-    if raw_begin >= raw_end || raw_end - raw_begin > LARGEST_REGION {
-        return Err(Refusal::BadBounds);
-    }
+    check_bounds(request.begin, request.end)?;
 
     let alignment = i64::from(request.alignment);
     let local_blocks = i64::from(request.local_blocks);
@@ -63,8 +87,8 @@ pub fn lay_out(request: &Request) -> Result<Layout, Refusal> {
 
     // In a tiny region begin can round past end, and at the last addresses
     // past 2^32: the size is then negative, and so below the minimum.
-    let begin = round_up(raw_begin, alignment);
-    let end = round_down(raw_end, alignment);
+    let begin = round_up(request.begin.into(), alignment);
+    let end = round_down(request.end.into(), alignment);
     let size = end - begin;
     let minimum = ring_minimum(local_blocks, remote_blocks, alignment);
     if size < minimum {
@@ -88,6 +112,21 @@ pub fn lay_out(request: &Request) -> Result<Layout, Refusal> {
     })
 }
 
+pub fn check_alignment(alignment: u32) -> Result<(), Refusal> {
+    refuse(!ALIGNMENTS.contains(&alignment), Refusal::BadAlignment)
+}
+
+/// The limits of a region are those of the raw one, before rounding.
+pub fn check_bounds(begin: u32, end: u32) -> Result<(), Refusal> {
+    let length = i64::from(end) - i64::from(begin);
+    refuse(!(1..=LARGEST_REGION).contains(&length), Refusal::BadBounds)
+}
+
+/// True if two regions share no byte; they may touch.
+pub fn apart(one: &Range<u32>, other: &Range<u32>) -> bool {
+    one.end <= other.start || other.end <= one.start
+}
+
 /// The least bytes a ring takes, for blocks of both regions.
 pub fn ring_minimum(local_blocks: i64, remote_blocks: i64, alignment: i64) -> i64 {
     ring_header(alignment) + 8 * (local_blocks + remote_blocks + 2)
@@ -102,7 +141,7 @@ pub fn round_up(value: i64, alignment: i64) -> i64 {
     round_down(value + alignment - 1, alignment)
 }
 
-fn round_down(value: i64, alignment: i64) -> i64 {
+pub fn round_down(value: i64, alignment: i64) -> i64 {
     value / alignment * alignment
 }
 

@@ -73,6 +73,8 @@ refusals! {
     NoRoom = 24,
     /// no live message starts there in the state that the call needs
     NoMessage = 25,
+    /// the buffer is shorter than the content
+    ShortBuffer = 26,
 }
 
 /// A check that fails if something is the case.

@@ -5,9 +5,9 @@
 
 use std::array;
 
-use crate::link::fault::{planted, unless, Fault};
-use crate::link::layout::{lay_out, Request};
-use crate::link::refusal::Refusal;
+use crate::link::fault::{in_order, planted, unless, Fault};
+use crate::link::layout::{RingPlace, Ringed};
+use crate::link::refusal::{refuse, Refusal};
 
 /// The most bytes of a content: its length has to fit two bytes.
 pub const LONGEST_CONTENT: usize = u16::MAX as usize;
@@ -19,7 +19,7 @@ pub const UNIT: usize = 4;
 const PACKET_HEADER: usize = 4;
 
 /// The first packet's content on every ring.
-const START_CONTENT: [u8; 13] = [
+pub const START_CONTENT: [u8; 13] = [
     0x45, 0x6d, 0x31, 0x6c, 0x31, 0x4b, 0x30, 0x72, 0x6e, 0x33, 0x6c, 0x69, 0x34,
 ];
 
@@ -56,12 +56,12 @@ impl From<Refusal> for RefusedPull {
 }
 
 /// Empties the ring and puts the start content on it.
-pub fn start(request: &Request, region: &mut [u8]) -> Result<Moved, Refusal> {
+pub fn start(request: &impl Ringed, region: &mut [u8]) -> Result<Moved, Refusal> {
     start_at(request, 0, region)
 }
 
 /// The same with the packet at an index, which is 0 unless a fault is planted.
-pub fn start_at(request: &Request, index: u32, region: &mut [u8]) -> Result<Moved, Refusal> {
+pub fn start_at(request: &impl Ringed, index: u32, region: &mut [u8]) -> Result<Moved, Refusal> {
     let ring = Ring::find(request, region)?;
     *ring.read_index = [0; UNIT];
     *ring.write_index = [0; UNIT];
@@ -75,19 +75,18 @@ pub fn is_start(content: &[u8]) -> bool {
 
 /// Puts a packet with this content on the ring, at the writer's index.
 pub fn push(
-    request: &Request,
+    request: &impl Ringed,
     own_index: u32,
     region: &mut [u8],
     content: &[u8],
 ) -> Result<Moved, Refusal> {
     let mut ring = Ring::find(request, region)?;
     let write = ring.in_rule(own_index).ok_or(Refusal::WrongRegion)?;
-    if content.len() > LONGEST_CONTENT {
-        return Err(Refusal::TooLong);
-    }
-    let read = ring
-        .in_rule(u32::from_le_bytes(*ring.read_index))
-        .ok_or(Refusal::BadIndex)?;
+    let length = refuse(content.len() > LONGEST_CONTENT, Refusal::TooLong);
+    let read = u32::from_le_bytes(*ring.read_index);
+    let read = ring.in_rule(read).ok_or(Refusal::BadIndex);
+    in_order(Fault::IndexBeforeLength, length, read.map(|_| ()))?;
+    let read = read?;
     let packet = packet(content);
     // Were all bytes used, the indexes would be equal, as in an empty ring.
     let most = unless(Fault::FullAtLength, ring.data.len() - 1, ring.data.len());
@@ -112,51 +111,17 @@ pub fn push(
 /// Takes the packet at the reader's index off the ring. The buffer gets as
 /// much of its content as fits. With a broken packet goes all that is unread.
 pub fn pull(
-    request: &Request,
+    request: &impl Ringed,
     own_index: u32,
     region: &mut [u8],
     buffer: &mut [u8],
 ) -> Result<Moved, RefusedPull> {
     let mut ring = Ring::find(request, region)?;
-    let in_memory = u32::from_le_bytes(*ring.read_index);
-    let own_index = unless(Fault::OwnIndexRead, own_index, in_memory);
-    let read = ring.in_rule(own_index).ok_or(Refusal::WrongRegion)?;
-    let write = u32::from_le_bytes(*ring.write_index);
-    let Some(write) = ring.in_rule(write) else {
-        let wrong = planted(Fault::BadIndexDrops);
-        return Err(RefusedPull {
-            refusal: Refusal::BadIndex,
-            dropped: wrong.then(|| ring.go_on(read, write as usize)),
-        });
-    };
-    let unread = ring.distance(read, write);
-    if unread == 0 && !planted(Fault::EmptyIsBroken) {
-        return Err(Refusal::Empty.into());
-    }
-    let [high, low, reserved @ ..] = ring.packet_header(read);
-    let length = u16::from_be_bytes([high, low]);
-    let packet_length = packet_length(usize::from(length));
-    let content_alone = usize::from(length);
-    let counted = unless(Fault::PacketHeaderUncounted, packet_length, content_alone);
-    let reserved_read = planted(Fault::ReservedBytesRead) && reserved != [0, 0];
-    if counted > unread || reserved_read {
-        if planted(Fault::BrokenContentCopied) {
-            ring.copy_content(read, length, buffer);
-        }
-        return Err(RefusedPull {
-            refusal: Refusal::BrokenPacket,
-            dropped: ring.drop_unread(read, write, packet_length),
-        });
-    }
-
-    ring.copy_content(read, length, buffer);
-    let own_index = past(read, packet_length, ring.data.len());
-    *ring.read_index = own_index.to_le_bytes();
-    let copied = usize::from(length).min(buffer.len()) as u16;
-    Ok(Moved {
-        length: unless(Fault::CopiedReported, length, copied).into(),
-        own_index,
-    })
+    let unread = ring.unread(own_index)?;
+    unread.check_any()?;
+    let packet = ring.packet_at(unread.read);
+    ring.check_whole(&unread, &packet, buffer)?;
+    Ok(ring.take(&packet, buffer))
 }
 
 /// Bytes that a packet takes on the ring.
@@ -187,30 +152,129 @@ pub struct Ring<'a> {
     pub data: &'a mut [u8],
 }
 
+/// Where unread bytes begin and end, and how many they are.
+pub struct Unread {
+    pub read: usize,
+    pub write: usize,
+    bytes: usize,
+}
+
+impl Unread {
+    /// Refuses an empty ring.
+    pub fn check_any(&self) -> Result<(), Refusal> {
+        let empty = self.bytes == 0 && !planted(Fault::EmptyIsBroken);
+        refuse(empty, Refusal::Empty)
+    }
+}
+
+/// A packet as its first bytes have it; they can claim anything.
+pub struct Packet {
+    at: usize,
+    /// Bytes of its content.
+    pub length: u16,
+    reserved: [u8; 2],
+}
+
+impl Packet {
+    /// Bytes that it takes on the ring.
+    fn whole(&self) -> usize {
+        packet_length(self.length.into())
+    }
+}
+
 impl<'a> Ring<'a> {
     /// The ring in a raw region that is lent whole.
-    pub fn find(request: &Request, region: &'a mut [u8]) -> Result<Self, Refusal> {
-        let layout = lay_out(request)?;
-        let length = request.end - request.begin;
-        if region.len() != length as usize {
-            return Err(Refusal::WrongRegion);
-        }
-        let ring_at = (layout.begin - request.begin) as usize;
-        let blocks_at = (layout.blocks_begin - request.begin) as usize;
-        let ring = &mut region[ring_at..blocks_at];
-
-        let (before_write_index, rest) = ring.split_at_mut(request.alignment as usize);
-        let (read_index, _) = before_write_index
-            .split_first_chunk_mut()
-            .expect("no alignment is below 4");
-        let (write_index, data) = rest
-            .split_first_chunk_mut()
-            .expect("a ring is longer than its header");
-        Ok(Ring {
+    pub fn find(request: &impl Ringed, region: &'a mut [u8]) -> Result<Self, Refusal> {
+        let RingPlace {
+            raw_length,
             read_index,
             write_index,
             data,
+        } = request.ring_place()?;
+        refuse(region.len() != raw_length, Refusal::WrongRegion)?;
+
+        let (header, rest) = region.split_at_mut(data.start);
+        let (before_write_index, from_write_index) = header.split_at_mut(write_index);
+        Ok(Ring {
+            read_index: before_write_index[read_index..]
+                .first_chunk_mut()
+                .expect("no alignment is below 4"),
+            write_index: from_write_index
+                .first_chunk_mut()
+                .expect("the data begins behind the write index"),
+            data: &mut rest[..data.len()],
         })
+    }
+
+    /// What is unread, from the reader's index on.
+    pub fn unread(&mut self, own_index: u32) -> Result<Unread, RefusedPull> {
+        let in_memory = u32::from_le_bytes(*self.read_index);
+        let own_index = unless(Fault::OwnIndexRead, own_index, in_memory);
+        let read = self.in_rule(own_index).ok_or(Refusal::WrongRegion)?;
+        let write = u32::from_le_bytes(*self.write_index);
+        let Some(write) = self.in_rule(write) else {
+            let wrong = planted(Fault::BadIndexDrops);
+            return Err(RefusedPull {
+                refusal: Refusal::BadIndex,
+                dropped: wrong.then(|| self.go_on(read, write as usize)),
+            });
+        };
+        Ok(Unread {
+            read,
+            write,
+            bytes: self.distance(read, write),
+        })
+    }
+
+    /// The packet that begins at an index.
+    pub fn packet_at(&self, at: usize) -> Packet {
+        let [high, low, reserved @ ..]: [u8; PACKET_HEADER] =
+            array::from_fn(|byte| self.data[(at + byte) % self.data.len()]);
+        Packet {
+            at,
+            length: u16::from_be_bytes([high, low]),
+            reserved,
+        }
+    }
+
+    /// Refuses a packet that is longer than what is unread, and drops all of
+    /// that. The buffer stays as it is, unless a fault is planted.
+    pub fn check_whole(
+        &mut self,
+        unread: &Unread,
+        packet: &Packet,
+        buffer: &mut [u8],
+    ) -> Result<(), RefusedPull> {
+        let content_alone = packet.length.into();
+        let counted = unless(Fault::PacketHeaderUncounted, packet.whole(), content_alone);
+        let reserved_read = planted(Fault::ReservedBytesRead) && packet.reserved != [0, 0];
+        if counted <= unread.bytes && !reserved_read {
+            return Ok(());
+        }
+        if planted(Fault::BrokenContentCopied) {
+            self.copy_content(packet, buffer);
+        }
+        Err(RefusedPull {
+            refusal: Refusal::BrokenPacket,
+            dropped: self.drop_unread(unread.read, unread.write, packet.whole()),
+        })
+    }
+
+    /// Takes a whole packet off the ring.
+    pub fn take(&mut self, packet: &Packet, buffer: &mut [u8]) -> Moved {
+        self.copy_content(packet, buffer);
+        let own_index = self.behind(packet);
+        *self.read_index = own_index.to_le_bytes();
+        let copied = usize::from(packet.length).min(buffer.len()) as u16;
+        Moved {
+            length: unless(Fault::CopiedReported, packet.length, copied).into(),
+            own_index,
+        }
+    }
+
+    /// The index behind a packet.
+    pub fn behind(&self, packet: &Packet) -> u32 {
+        past(packet.at, packet.whole(), self.data.len())
     }
 
     /// The index as a position in the data, if it is one where a packet can
@@ -228,15 +292,10 @@ impl<'a> Ring<'a> {
         (self.data.len() + write - read) % self.data.len()
     }
 
-    /// The bytes of a packet before its content.
-    fn packet_header(&self, index: usize) -> [u8; PACKET_HEADER] {
-        array::from_fn(|at| self.data[(index + at) % self.data.len()])
-    }
-
     /// Copies as much of a packet's content as the buffer takes.
-    fn copy_content(&mut self, packet: usize, length: u16, buffer: &mut [u8]) {
-        let content = self.once_around(packet).skip(PACKET_HEADER);
-        let content = content.take(usize::from(length));
+    pub fn copy_content(&mut self, packet: &Packet, buffer: &mut [u8]) {
+        let content = self.once_around(packet.at).skip(PACKET_HEADER);
+        let content = content.take(packet.length.into());
         for (place, byte) in buffer.iter_mut().zip(content) {
             *place = *byte;
         }
@@ -257,7 +316,7 @@ impl<'a> Ring<'a> {
     }
 
     /// Writes out where the reader goes on, and gives what it drops by that.
-    fn go_on(&mut self, read: usize, to: usize) -> Dropped {
+    pub fn go_on(&mut self, read: usize, to: usize) -> Dropped {
         let own_index = to as u32;
         if !planted(Fault::DropUnwritten) {
             *self.read_index = own_index.to_le_bytes();
@@ -277,9 +336,7 @@ impl<'a> Ring<'a> {
         let unread = self.distance(read, write);
         for dropped in (UNIT..unread).step_by(UNIT) {
             let at = past(read, dropped, self.data.len()) as usize;
-            let [high, low, ..] = self.packet_header(at);
-            let length = u16::from_be_bytes([high, low]);
-            if packet_length(length.into()) <= unread - dropped {
+            if self.packet_at(at).whole() <= unread - dropped {
                 return at;
             }
         }

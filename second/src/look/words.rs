@@ -6,6 +6,7 @@ use crate::link::end::Control;
 use crate::link::layout::Request;
 use crate::link::refusal::Refusal;
 use crate::link::ring::is_start;
+use crate::link::unit::Plain;
 
 /// Bytes as text, in quotes; what is not printable is escaped. Of many the
 /// first are shown.
@@ -95,6 +96,20 @@ impl Display for Request {
             counted(self.local_blocks as usize, "block"),
             self.remote_blocks,
             self.alignment
+        )
+    }
+}
+
+impl Display for Plain {
+    fn fmt(&self, f: &mut Formatter) -> fmt::Result {
+        let Plain {
+            begin,
+            end,
+            alignment,
+        } = self;
+        write!(
+            f,
+            "plain region {begin:#x} to {end:#x}, alignment {alignment}"
         )
     }
 }

@@ -75,22 +75,14 @@ impl Numbers {
 
     /// The same from whole numbers; none if an address leaves 32 bits.
     pub fn region_of(self, begin: i64, length: i64) -> Option<Request> {
-        let end = u32::try_from(begin + length).ok()?;
-        Some(self.region(u32::try_from(begin).ok()?, end))
+        let [begin, end] = addresses(begin, length)?;
+        Some(self.region(begin, end))
     }
 
-    /// Regions of one raw length (begin above end, if it is negative): in the
-    /// first bytes, at a usual address and in the last bytes of memory,
-    /// aligned and a byte off.
+    /// Regions of one raw length.
     fn places(self, length: i64) -> impl Iterator<Item = Request> {
-        let a = i64::from(self.alignment);
-        let top = LAST + 1 - a;
-        let begins = [0, 1, 2, a - 1, a, a + 1, USUAL - 1, USUAL, USUAL + 1];
-        let ends = [top - 1, top, top + 1, LAST - 1, LAST];
-        begins
-            .into_iter()
-            .chain(ends.map(|end| end - length))
-            .filter_map(move |begin| self.region_of(begin, length))
+        let regions = regions_of(self.alignment, length);
+        regions.map(move |[begin, end]| self.region(begin, end))
     }
 
     /// The sizes at which the ring fits, one least block fits beside it, and
@@ -101,6 +93,26 @@ impl Numbers {
         let ring = ring_minimum(blocks, i64::from(self.remote_blocks), a);
         [ring, ring + a, ring + blocks * a, ring + 2 * blocks * a]
     }
+}
+
+/// Begin and end of a region; none if one of them leaves 32 bits.
+pub fn addresses(begin: i64, length: i64) -> Option<[u32; 2]> {
+    let end = u32::try_from(begin + length).ok()?;
+    Some([u32::try_from(begin).ok()?, end])
+}
+
+/// Regions of one raw length (begin above end, if it is negative): in the first
+/// bytes, at a usual address and in the last bytes of memory, aligned and a
+/// byte off.
+pub fn regions_of(alignment: u32, length: i64) -> impl Iterator<Item = [u32; 2]> {
+    let a = i64::from(alignment);
+    let top = LAST + 1 - a;
+    let begins = [0, 1, 2, a - 1, a, a + 1, USUAL - 1, USUAL, USUAL + 1];
+    let ends = [top - 1, top, top + 1, LAST - 1, LAST];
+    begins
+        .into_iter()
+        .chain(ends.map(|end| end - length))
+        .filter_map(move |begin| addresses(begin, length))
 }
 
 fn pairs<T: Copy>(choices: &[T]) -> impl Iterator<Item = (T, T)> + '_ {

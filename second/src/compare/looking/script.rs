@@ -2,7 +2,8 @@
 
 use super::says;
 use crate::compare::report::Group;
-use crate::compare::traffic::{in_script_main, Case, Opponent};
+use crate::compare::traffic::{in_script_main, Case};
+use crate::compare::Opponent;
 use crate::link::end::{Opening, Slice};
 use crate::link::script::{Record, OPENING_BYTES, ROW_BYTES};
 

@@ -7,102 +7,19 @@ use crate::compare::report::Group;
 use crate::compare::tally::Tally;
 use crate::compare::twin::{Twin, PATTERN};
 use crate::link::layout::Request;
+use crate::link::outcome::Outcome;
 use crate::link::refusal::outcome_name;
-use crate::link::ring::{self, packet_length, past, Moved, RefusedPull, Ring};
-
-/// Numbers in a whole answer: length, own index after the call, dropped bytes.
-pub const ANSWER: usize = 3;
+use crate::link::ring::{self, Ring};
 
 /// What a call is asked with, but for the lent memory. A start has no own index
 /// before it: 0.
 #[derive(Clone, Copy)]
-pub struct Call {
-    pub request: Request,
+pub struct Call<R = Request> {
+    pub request: R,
     pub own_index: u32,
     pub answer_length: usize,
     /// What is known of the outcome beforehand.
     pub stated: Option<Outcome>,
-}
-
-/// What a call comes to; refusal 0 is an accepted one.
-#[derive(Clone, Copy, PartialEq, Eq)]
-pub struct Outcome {
-    refusal: u32,
-    length: u32,
-    /// After the call.
-    pub own_index: u32,
-    /// Unread bytes that are gone.
-    dropped: u32,
-}
-
-impl Outcome {
-    /// For a content of that length in a ring with that many data bytes.
-    pub fn accepted(content_length: usize, own_index: u32, data_length: usize) -> Self {
-        let packet_length = packet_length(content_length);
-        Outcome {
-            refusal: 0,
-            length: content_length as u32,
-            own_index: past(own_index as usize, packet_length, data_length),
-            dropped: 0,
-        }
-    }
-
-    pub fn refused(refusal: u32, own_index: u32) -> Self {
-        Outcome {
-            refusal,
-            length: 0,
-            own_index,
-            dropped: 0,
-        }
-    }
-
-    /// By a broken packet, with so many unread bytes up to the partner's index.
-    pub fn broken(partner_index: u32, unread: usize) -> Self {
-        Outcome {
-            dropped: unread as u32,
-            ..Outcome::refused(9, partner_index)
-        }
-    }
-
-    fn second(own_index: u32, result: Result<Moved, impl Into<RefusedPull>>) -> Self {
-        match result.map_err(Into::into) {
-            Ok(Moved { length, own_index }) => Outcome {
-                refusal: 0,
-                length,
-                own_index,
-                dropped: 0,
-            },
-            Err(RefusedPull { refusal, dropped }) => {
-                let refusal = refusal as u32;
-                let own_index = dropped.map_or(own_index, |dropped| dropped.own_index);
-                Outcome {
-                    dropped: dropped.map_or(0, |dropped| dropped.bytes),
-                    ..Outcome::refused(refusal, own_index)
-                }
-            }
-        }
-    }
-
-    /// Writes as much of the answer as there is space for.
-    fn write(&self, answer: &mut [u32]) {
-        let values: [u32; ANSWER] = [self.length, self.own_index, self.dropped];
-        for (element, value) in answer.iter_mut().zip(values) {
-            *element = value;
-        }
-    }
-}
-
-impl Display for Outcome {
-    fn fmt(&self, f: &mut Formatter) -> fmt::Result {
-        write!(
-            f,
-            "{}, length {}, own index {}, {} bytes dropped",
-            outcome_name(self.refusal),
-            self.length,
-            self.own_index,
-            self.dropped
-        )
-    }
 }
 
 #[derive(Default)]
@@ -127,7 +44,7 @@ impl Calls<'_, '_> {
         let [second_region, proved_region] = region.lend();
 
         let result = ring::start(&call.request, second_region);
-        let second = Outcome::second(call.own_index, result);
+        let second = Outcome::of(call.own_index, result);
         second.write(second_answer);
         let proved = proved::start(&call.request, proved_region, proved_answer);
 
@@ -151,7 +68,7 @@ impl Calls<'_, '_> {
         let [second_region, proved_region] = region.lend();
 
         let result = ring::push(&call.request, call.own_index, second_region, content);
-        let second = Outcome::second(call.own_index, result);
+        let second = Outcome::of(call.own_index, result);
         second.write(second_answer);
         let proved = proved::push(
             &call.request,
@@ -182,7 +99,7 @@ impl Calls<'_, '_> {
         let [second_buffer, proved_buffer] = buffer.lend();
 
         let result = ring::pull(&call.request, call.own_index, second_region, second_buffer);
-        let second = Outcome::second(call.own_index, result);
+        let second = Outcome::of(call.own_index, result);
         second.write(second_answer);
         let proved = proved::pull(
             &call.request,

@@ -4,20 +4,21 @@
 use std::mem::swap;
 use std::ops::Range;
 
-use super::calls::{Call, Calls, Outcome};
+use super::calls::{Call, Calls};
 use super::inputs::{answer_length, buffer_length, multiple, Place};
 use super::start::START_LENGTH;
 use crate::compare::layout::inputs::{corner, LAST};
 use crate::compare::random::{Pool, Random};
 use crate::compare::twin::Twin;
-use crate::link::layout::{ring_minimum, Request, ALIGNMENTS, LARGEST_REGION, MOST_BLOCKS};
+use crate::link::layout::{ring_minimum, Request, Ringed, ALIGNMENTS, LARGEST_REGION, MOST_BLOCKS};
+use crate::link::outcome::Outcome;
 use crate::link::ring::{past, Ring, LONGEST_CONTENT, UNIT};
 
 /// Brings one cause of refusal into a call.
-type Cause = fn(&mut Plan, &mut Random);
+pub type Cause<R = Request> = fn(&mut Plan<R>, &mut Random);
 
 /// Causes and their refusals, in the order of a call's checks.
-type Causes = [(u32, Cause)];
+type Causes<R> = [(u32, Cause<R>)];
 
 const START_CAUSES: [(u32, Cause); 5] = [
     (1, bad_alignment),
@@ -77,9 +78,7 @@ impl Asked {
 
 /// A start with the chosen causes.
 pub fn start(calls: &mut Calls, random: &mut Random, pool: &Pool, place: Place, asked: Asked) {
-    // A start is handed no index, and is to be at 0.
-    let mut plan = Plan::new(place, 0, 0, 0);
-    plan.content_length = START_LENGTH;
+    let mut plan = Plan::to_start(place);
     let call = plan.spoil(&START_CAUSES, asked, random);
     let mut region = plan.region(random, pool, |_| {});
     calls.start(&call, &mut region);
@@ -87,38 +86,18 @@ pub fn start(calls: &mut Calls, random: &mut Random, pool: &Pool, place: Place, 
 
 /// A push with the chosen causes, on a ring of less than 65,536 data bytes.
 pub fn push(calls: &mut Calls, random: &mut Random, pool: &Pool, place: Place, asked: Asked) {
-    let used = multiple(random, place.data_length - 2 * UNIT);
-    let write = place.index(random);
-    let read = past(write as usize, place.data_length - used, place.data_length);
-    let mut plan = Plan::new(place, write, read, used);
-    plan.content_length = up_to(random, plan.longest_to_push());
-
+    let mut plan = Plan::to_push(random, place);
     let call = plan.spoil(&PUSH_CAUSES, asked, random);
-    let stale = place.index(random);
-    let mut region = plan.region(random, pool, |ring| {
-        *ring.read_index = plan.partner_index.to_le_bytes();
-        *ring.write_index = stale.to_le_bytes();
-    });
+    let mut region = plan.region_to_push(random, pool);
     let content = pool.slice(random, plan.content_length);
     calls.push(&call, &mut region, content);
 }
 
 /// A pull with the chosen causes.
 pub fn pull(calls: &mut Calls, random: &mut Random, pool: &Pool, place: Place, asked: Asked) {
-    let unread = UNIT + multiple(random, place.data_length - 2 * UNIT);
-    let read = place.index(random);
-    let write = past(read as usize, unread, place.data_length);
-    let mut plan = Plan::new(place, read, write, unread);
-    plan.content_length = up_to(random, plan.longest_to_pull());
-
+    let mut plan = Plan::to_pull(random, place);
     let call = plan.spoil(&PULL_CAUSES, asked, random);
-    let stale = place.index(random);
-    let mut region = plan.region(random, pool, |ring| {
-        *ring.read_index = stale.to_le_bytes();
-        *ring.write_index = plan.partner_index.to_le_bytes();
-        let length = (plan.content_length as u16).to_be_bytes();
-        ring.data[read as usize..][..length.len()].copy_from_slice(&length);
-    });
+    let mut region = plan.region_to_pull(random, pool);
     let length = buffer_length(random, place.data_length);
     let mut buffer = Twin::new(pool.slice(random, length));
     calls.pull(&call, &mut region, &mut buffer);
@@ -133,25 +112,76 @@ fn up_to(random: &mut Random, most: usize) -> usize {
     }
 }
 
+/// The numbers of a region, to be spoiled.
+pub trait Spoils: Ringed + Copy {
+    /// Begin, end and alignment.
+    fn numbers(&mut self) -> [&mut u32; 3];
+
+    /// Every raw length below this is too small.
+    fn least_length(&self) -> i64;
+}
+
+impl Spoils for Request {
+    fn numbers(&mut self) -> [&mut u32; 3] {
+        [&mut self.begin, &mut self.end, &mut self.alignment]
+    }
+
+    /// With space for the ring and for the least blocks beside it.
+    fn least_length(&self) -> i64 {
+        let [blocks, others, a] =
+            [self.local_blocks, self.remote_blocks, self.alignment].map(i64::from);
+        ring_minimum(blocks, others, a) + blocks * a
+    }
+}
+
 /// A call to be made, and what it is about.
-struct Plan {
+pub struct Plan<R = Request> {
     /// The ring, whatever the caller says of it.
-    place: Place,
+    place: Place<R>,
     /// Where the packet begins.
     start: u32,
     partner_index: u32,
     /// Bytes between the two indexes.
     used: usize,
     /// Bytes of the content to push, or of the one the ring offers.
-    content_length: usize,
+    pub content_length: usize,
     // What the caller hands over.
-    request: Request,
+    request: R,
     own_index: u32,
     lent_length: usize,
+    /// Only a call that takes contents whole asks for it.
+    pub buffer_length: usize,
 }
 
-impl Plan {
-    fn new(place: Place, start: u32, partner_index: u32, used: usize) -> Self {
+impl<R: Spoils> Plan<R> {
+    /// A start is handed no index, and is to be at 0.
+    pub fn to_start(place: Place<R>) -> Self {
+        let mut plan = Plan::new(place, 0, 0, 0);
+        plan.content_length = START_LENGTH;
+        plan
+    }
+
+    /// A push of what fits.
+    pub fn to_push(random: &mut Random, place: Place<R>) -> Self {
+        let used = multiple(random, place.data_length - 2 * UNIT);
+        let write = place.index(random);
+        let read = past(write as usize, place.data_length - used, place.data_length);
+        let mut plan = Plan::new(place, write, read, used);
+        plan.content_length = up_to(random, plan.longest_to_push());
+        plan
+    }
+
+    /// A pull of a whole packet.
+    pub fn to_pull(random: &mut Random, place: Place<R>) -> Self {
+        let unread = UNIT + multiple(random, place.data_length - 2 * UNIT);
+        let read = place.index(random);
+        let write = past(read as usize, unread, place.data_length);
+        let mut plan = Plan::new(place, read, write, unread);
+        plan.content_length = up_to(random, plan.longest_to_pull());
+        plan
+    }
+
+    fn new(place: Place<R>, start: u32, partner_index: u32, used: usize) -> Self {
         Plan {
             place,
             start,
@@ -161,6 +191,7 @@ impl Plan {
             request: place.request,
             own_index: start,
             lent_length: place.length(),
+            buffer_length: 0,
         }
     }
 
@@ -174,7 +205,7 @@ impl Plan {
     }
 
     /// Brings the chosen causes in, and states what must come of the call.
-    fn spoil(&mut self, causes: &Causes, asked: Asked, random: &mut Random) -> Call {
+    pub fn spoil(&mut self, causes: &Causes<R>, asked: Asked, random: &mut Random) -> Call<R> {
         // Backwards: of two causes in one number, that of the first check has
         // the last word, and so has its refusal.
         let mut refusal = None;
@@ -197,9 +228,28 @@ impl Plan {
         }
     }
 
-    /// Random bytes, but for what is set in the ring. The own index in it is
-    /// stale, to mislead whoever reads it.
-    fn region(&self, random: &mut Random, pool: &Pool, set: impl FnOnce(Ring)) -> Twin<u8> {
+    /// The own index in it is stale, to mislead whoever reads it.
+    pub fn region_to_push(&self, random: &mut Random, pool: &Pool) -> Twin<u8> {
+        let stale = self.place.index(random);
+        self.region(random, pool, |ring| {
+            *ring.read_index = self.partner_index.to_le_bytes();
+            *ring.write_index = stale.to_le_bytes();
+        })
+    }
+
+    /// The own index is stale here, too.
+    pub fn region_to_pull(&self, random: &mut Random, pool: &Pool) -> Twin<u8> {
+        let stale = self.place.index(random);
+        self.region(random, pool, |ring| {
+            *ring.read_index = stale.to_le_bytes();
+            *ring.write_index = self.partner_index.to_le_bytes();
+            let length = (self.content_length as u16).to_be_bytes();
+            ring.data[self.start as usize..][..length.len()].copy_from_slice(&length);
+        })
+    }
+
+    /// Random bytes, but for what is set in the ring.
+    pub fn region(&self, random: &mut Random, pool: &Pool, set: impl FnOnce(Ring)) -> Twin<u8> {
         let mut bytes = pool.slice(random, self.place.length()).to_vec();
         set(self.place.ring(&mut bytes));
         bytes.resize(self.lent_length, 0);
@@ -207,8 +257,9 @@ impl Plan {
     }
 }
 
-fn bad_alignment(plan: &mut Plan, random: &mut Random) {
-    plan.request.alignment = corner_outside(random, |number| ALIGNMENTS.contains(&number));
+pub fn bad_alignment<R: Spoils>(plan: &mut Plan<R>, random: &mut Random) {
+    let [_, _, alignment] = plan.request.numbers();
+    *alignment = corner_outside(random, |number| ALIGNMENTS.contains(&number));
 }
 
 fn bad_block_count(plan: &mut Plan, random: &mut Random) {
@@ -232,38 +283,30 @@ fn corner_outside(random: &mut Random, good: impl Fn(u32) -> bool) -> u32 {
     }
 }
 
-fn bad_bounds(plan: &mut Plan, random: &mut Random) {
-    let request = &mut plan.request;
+pub fn bad_bounds<R: Spoils>(plan: &mut Plan<R>, random: &mut Random) {
+    let [begin, end, _] = plan.request.numbers();
     match random.below(3) {
-        0 => request.end = request.begin,
-        1 => swap(&mut request.begin, &mut request.end),
+        0 => *end = *begin,
+        1 => swap(begin, end),
         _ => {
             let length = LARGEST_REGION + random.between(1, 9);
-            let begin = random.between(0, LAST - length);
-            request.begin = begin as u32;
-            request.end = (begin + length) as u32;
+            let first = random.between(0, LAST - length);
+            *begin = first as u32;
+            *end = (first + length) as u32;
         }
     }
 }
 
-/// A region without space for the ring, or for the least blocks beside it.
-fn too_small(plan: &mut Plan, random: &mut Random) {
-    let request = &mut plan.request;
-    let [blocks, others, a] = [
-        request.local_blocks,
-        request.remote_blocks,
-        request.alignment,
-    ]
-    .map(i64::from);
-    let length = random.between(1, ring_minimum(blocks, others, a) + blocks * a - 1);
-    let end = request.begin + length as u32;
-    let cut = request.end - end;
-    request.end = end;
+pub fn too_small<R: Spoils>(plan: &mut Plan<R>, random: &mut Random) {
+    let length = random.between(1, plan.request.least_length() - 1);
+    let [begin, end, _] = plan.request.numbers();
+    let cut = *end - *begin - length as u32;
+    *end -= cut;
     // A slice of the wrong length stays one.
     plan.lent_length = plan.lent_length.saturating_sub(cut as usize);
 }
 
-fn wrong_region(plan: &mut Plan, random: &mut Random) {
+pub fn wrong_region<R: Spoils>(plan: &mut Plan<R>, random: &mut Random) {
     if random.one_in(2) {
         plan.own_index = plan.place.bad_index(random);
     } else {
@@ -271,28 +314,28 @@ fn wrong_region(plan: &mut Plan, random: &mut Random) {
     }
 }
 
-fn wrong_length(plan: &mut Plan, random: &mut Random) {
+pub fn wrong_length<R: Spoils>(plan: &mut Plan<R>, random: &mut Random) {
     let length = plan.lent_length;
     plan.lent_length = random.pick(&[0, 1, length - 1, length + 1, 2 * length]);
 }
 
-fn too_long(plan: &mut Plan, random: &mut Random) {
+pub fn too_long<R: Spoils>(plan: &mut Plan<R>, random: &mut Random) {
     plan.content_length = LONGEST_CONTENT + random.pick(&[1, 2, 3, 4, 5, 65_536, 65_537]);
 }
 
-fn bad_index(plan: &mut Plan, random: &mut Random) {
+pub fn bad_index<R: Spoils>(plan: &mut Plan<R>, random: &mut Random) {
     plan.partner_index = plan.place.bad_index(random);
 }
 
-fn full(plan: &mut Plan, random: &mut Random) {
+pub fn full<R: Spoils>(plan: &mut Plan<R>, random: &mut Random) {
     plan.content_length = longer_than(random, plan.longest_to_push());
 }
 
-fn empty(plan: &mut Plan, _: &mut Random) {
+pub fn empty<R: Spoils>(plan: &mut Plan<R>, _: &mut Random) {
     plan.partner_index = plan.start;
 }
 
-fn broken_packet(plan: &mut Plan, random: &mut Random) {
+pub fn broken_packet<R: Spoils>(plan: &mut Plan<R>, random: &mut Random) {
     plan.content_length = longer_than(random, plan.longest_to_pull());
 }
 

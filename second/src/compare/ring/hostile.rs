@@ -5,7 +5,7 @@ use super::inputs::{answer_length, buffer_length, content_length, Place, SMALL_R
 use crate::compare::layout::inputs::{corner, MIXTURES};
 use crate::compare::random::{Pool, Random};
 use crate::compare::twin::Twin;
-use crate::link::layout::{Request, LARGEST_REGION};
+use crate::link::layout::{Request, Ringed, LARGEST_REGION};
 
 /// A partner that writes what it likes to the region between two calls.
 pub fn hostile_partner(calls: &mut Calls, random: &mut Random, pool: &Pool, share: u64) {
@@ -30,12 +30,7 @@ fn hostile_call(
     place: Place,
     region: &mut Twin<u8>,
 ) {
-    if random.one_in(8) {
-        let bytes = pool.slice(random, place.data_length);
-        for region in region.lend() {
-            place.ring(region).data.copy_from_slice(bytes);
-        }
-    }
+    scribble(random, pool, place, region);
     let indexes = Indexes::any(random, place);
     let call = Call {
         request: place.request,
@@ -43,14 +38,12 @@ fn hostile_call(
         answer_length: answer_length(random),
         stated: None,
     };
-    let ahead = indexes.ahead(place);
     if random.one_in(2) {
         indexes.before_push(place, region);
-        let space = if ahead == 0 { place.data_length } else { ahead } - 1;
-        let length = content_length(random, space);
+        let length = content_length(random, indexes.space(&place));
         calls.push(&call, region, pool.slice(random, length));
     } else {
-        let length = hostile_length(random, ahead);
+        let length = hostile_length(random, indexes.ahead(&place));
         indexes.before_pull(place, region, length);
         let length = buffer_length(random, place.data_length);
         let mut buffer = Twin::new(pool.slice(random, length));
@@ -58,16 +51,31 @@ fn hostile_call(
     }
 }
 
+/// Now and then all data are other bytes.
+pub fn scribble<R: Ringed>(
+    random: &mut Random,
+    pool: &Pool,
+    place: Place<R>,
+    region: &mut Twin<u8>,
+) {
+    if random.one_in(8) {
+        let bytes = pool.slice(random, place.data_length);
+        for region in region.lend() {
+            place.ring(region).data.copy_from_slice(bytes);
+        }
+    }
+}
+
 /// The caller's index, and the two in memory.
-struct Indexes {
-    own: u32,
+pub struct Indexes {
+    pub own: u32,
     partner: u32,
     /// Nobody reads the own index in memory, so it may mislead.
     stale: u32,
 }
 
 impl Indexes {
-    fn any(random: &mut Random, place: Place) -> Self {
+    pub fn any<R: Ringed + Copy>(random: &mut Random, place: Place<R>) -> Self {
         let own = if random.one_in(16) {
             place.bad_index(random)
         } else {
@@ -82,12 +90,20 @@ impl Indexes {
 
     /// Bytes from the own index on to the partner's, for lengths near a limit;
     /// of bad indexes any number will do.
-    fn ahead(&self, place: Place) -> usize {
+    pub fn ahead<R>(&self, place: &Place<R>) -> usize {
         let ahead = i64::from(self.partner) - i64::from(self.own);
         ahead.rem_euclid(place.data_length as i64) as usize
     }
 
-    fn before_push(&self, place: Place, region: &mut Twin<u8>) {
+    /// The longest packet that a push can put there.
+    pub fn space<R>(&self, place: &Place<R>) -> usize {
+        match self.ahead(place) {
+            0 => place.data_length - 1,
+            ahead => ahead - 1,
+        }
+    }
+
+    pub fn before_push<R: Ringed>(&self, place: Place<R>, region: &mut Twin<u8>) {
         for region in region.lend() {
             let ring = place.ring(region);
             *ring.read_index = self.partner.to_le_bytes();
@@ -96,7 +112,7 @@ impl Indexes {
     }
 
     /// At the own index there is a packet that claims this length.
-    fn before_pull(&self, place: Place, region: &mut Twin<u8>, length: u16) {
+    pub fn before_pull<R: Ringed>(&self, place: Place<R>, region: &mut Twin<u8>, length: u16) {
         for region in region.lend() {
             let ring = place.ring(region);
             *ring.read_index = self.stale.to_le_bytes();
@@ -110,7 +126,7 @@ impl Indexes {
 }
 
 /// An index that a hostile partner writes.
-pub fn hostile_index(random: &mut Random, place: Place, own_index: u32) -> u32 {
+pub fn hostile_index<R: Ringed>(random: &mut Random, place: Place<R>, own_index: u32) -> u32 {
     let data_length = place.data_length as i64;
     match random.below(8) {
         0..=2 => place.index(random),

@@ -1,38 +1,29 @@
 //! Inputs of the ring comparison: regions, indexes and lengths.
 
-use super::calls::ANSWER;
 use crate::compare::layout::inputs::{good_numbers, Numbers, LAST, USUAL};
 use crate::compare::random::Random;
 use crate::link::end::Region;
-use crate::link::layout::{lay_out, ring_header, Request, ALIGNMENTS};
+use crate::link::layout::{lay_out, ring_header, Request, Ringed, ALIGNMENTS};
+use crate::link::outcome::ANSWER;
 use crate::link::ring::{Ring, LONGEST_CONTENT, UNIT};
 
 /// The most bytes of a region that is called small.
 pub const SMALL_REGION: i64 = 4096;
 
-/// An accepted region.
+/// An accepted region, one with blocks or a plain one.
 #[derive(Clone, Copy)]
-pub struct Place {
-    pub request: Request,
+pub struct Place<R = Request> {
+    pub request: R,
+    /// Bytes of the raw region.
+    length: usize,
     /// Data bytes of its ring.
     pub data_length: usize,
 }
 
 impl Place {
-    pub fn new(request: Request) -> Option<Self> {
-        let layout = lay_out(&request).ok()?;
-        Some(Place {
-            request,
-            data_length: layout.data_length as usize,
-        })
-    }
-
     /// A region of an open end.
     pub fn of(region: &Region) -> Self {
-        Place {
-            request: region.request,
-            data_length: region.layout.data_length as usize,
-        }
+        Place::new(region.request).expect("an accepted region")
     }
 
     /// A region whose ring has exactly that many data bytes, if the numbers
@@ -105,15 +96,26 @@ impl Place {
         }
     }
 
-    /// Bytes of the raw region.
-    pub fn length(&self) -> usize {
-        (self.request.end - self.request.begin) as usize
-    }
-
     /// Where the data ends and the blocks begin.
     pub fn blocks_at(&self) -> usize {
         let layout = lay_out(&self.request).expect("an accepted region");
         (layout.blocks_begin - self.request.begin) as usize
+    }
+}
+
+impl<R: Ringed> Place<R> {
+    pub fn new(request: R) -> Option<Self> {
+        let ring = request.ring_place().ok()?;
+        Some(Place {
+            request,
+            length: ring.raw_length,
+            data_length: ring.data.len(),
+        })
+    }
+
+    /// Bytes of the raw region.
+    pub fn length(&self) -> usize {
+        self.length
     }
 
     /// The ring in the bytes of the raw region.

@@ -1,11 +1,11 @@
 //! The comparison of the two rings.
 
 mod broken;
-mod calls;
-mod causes;
+pub mod calls;
+pub mod causes;
 pub mod hostile;
 pub mod inputs;
-mod start;
+pub mod start;
 mod two_sides;
 
 use std::ops::Range;
@@ -15,9 +15,10 @@ use crate::compare::random::{Pool, Random};
 use crate::compare::report::Report;
 use crate::compare::Settings;
 use crate::link::layout::{Request, LARGEST_REGION};
+use crate::link::outcome::ANSWER;
 use crate::link::ring::UNIT;
 use broken::{broken_packets, pull_broken};
-use calls::{Calls, Tallies, ANSWER};
+use calls::{Calls, Tallies};
 use causes::{Asked, Choice, CHOICES, START_CHOICES};
 use hostile::{hostile_partner, openings};
 use inputs::{buffer_length, content_length, Place, SMALL_REGION};

@@ -11,7 +11,7 @@ use crate::compare::twin::Twin;
 use crate::link::ring::is_start;
 
 /// The start content as it is stated.
-const STATED: [u8; START_LENGTH] = *b"Em1l1K0rn3li4";
+pub const STATED: [u8; START_LENGTH] = *b"Em1l1K0rn3li4";
 
 pub const START_LENGTH: usize = 13;
 

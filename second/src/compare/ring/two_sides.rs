@@ -3,9 +3,10 @@
 
 use std::collections::VecDeque;
 
-use super::calls::{Call, Calls, Outcome, ANSWER};
+use super::calls::{Call, Calls};
 use super::inputs::Place;
 use crate::compare::twin::Twin;
+use crate::link::outcome::{Outcome, ANSWER};
 use crate::link::ring::{packet_length, LONGEST_CONTENT};
 
 pub struct TwoSides {

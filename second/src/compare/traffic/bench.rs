@@ -1,8 +1,9 @@
 //! Scripts whose outcomes are stated beforehand.
 
-use super::case::{Case, Lengths, Opponent};
+use super::case::{Case, Lengths};
 use super::failure;
 use crate::compare::report::Group;
+use crate::compare::Opponent;
 use crate::link::end::{Given, Opening, Slice};
 use crate::link::script::{Record, Row, ROW_BYTES};
 

@@ -2,8 +2,9 @@
 
 use crate::compare::proved;
 use crate::compare::twin::Twin;
+use crate::compare::Opponent;
 use crate::link::end::Slice;
-use crate::link::fault::{self, Fault};
+use crate::link::fault;
 use crate::link::script::{self, Memory, Opening, Ran, Record, Row, ROW_BYTES};
 use crate::look;
 
@@ -24,14 +25,6 @@ pub struct Case {
     pub lengths: Lengths,
 }
 
-/// What the second implementation is compared with.
-#[derive(Clone, Copy)]
-pub enum Opponent {
-    Proved,
-    /// Itself, with a fault.
-    Planted(Fault),
-}
-
 impl Opponent {
     fn run(self, script: &[u8], memory: Memory, out: &mut [u8]) -> usize {
         match self {
@@ -39,14 +32,6 @@ impl Opponent {
             Opponent::Planted(fault) => {
                 fault::with(fault, || script::run(script, memory, out)).written
             }
-        }
-    }
-
-    /// What it is called where rows are printed.
-    pub fn name(self) -> &'static str {
-        match self {
-            Opponent::Proved => "proved",
-            Opponent::Planted(_) => "planted",
         }
     }
 }

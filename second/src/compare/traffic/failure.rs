@@ -5,10 +5,11 @@ use std::fs;
 use std::io;
 use std::path::{Path, PathBuf};
 
-use super::case::{Case, Lengths, Opponent};
+use super::case::{Case, Lengths};
 use super::newer::{newer, Newer};
 use super::shrink::shortest;
 use crate::compare::random::Random;
+use crate::compare::Opponent;
 use crate::link::script::{Row, ROW_BYTES};
 use crate::look::script::both;
 

@@ -15,14 +15,14 @@ mod session;
 mod shrink;
 mod soak;
 
-pub use case::{Case, Opponent};
+pub use case::Case;
 pub use failure::in_script_main;
-pub use planted::run as run_faults;
+pub use planted::{not_found, run as run_faults};
 pub use soak::run as soak;
 
 use crate::compare::random::Random;
 use crate::compare::report::{Group, Report};
-use crate::compare::Settings;
+use crate::compare::{Opponent, Settings};
 use newer::Newer;
 use outcomes::Outcomes;
 

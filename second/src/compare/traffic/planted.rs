@@ -1,12 +1,12 @@
 //! Plants faults in the second implementation and sees that the traffic finds
-//! them.
+//! them, and the unit comparison those of units.
 
-use super::case::{Case, Opponent};
+use super::case::Case;
 use super::shrink::shortest;
 use super::{honest, newer_partner, Batch, Source};
 use crate::compare::random::Random;
 use crate::compare::report::{Group, Report};
-use crate::compare::Settings;
+use crate::compare::{unit, Opponent, Settings};
 use crate::link::fault::{self, Fault};
 
 /// Faults that make changes of a newer partner matter.
@@ -34,6 +34,9 @@ pub fn run(settings: &Settings, report: &mut Report) {
     report.group("faults: the traffic finds every one", |group| {
         find_all(group, settings);
     });
+    report.group("faults: the unit comparison finds every one", |group| {
+        unit::find_all(group, settings);
+    });
     report.group("faults: a newer partner brings them out", |group| {
         for fault in NEWER_FAULTS {
             find(group, settings, fault, |random| {
@@ -55,7 +58,7 @@ pub fn run(settings: &Settings, report: &mut Report) {
 /// Runs the same scripts as the comparison with the proved code, a batch of
 /// each kind in turn.
 fn find_all(group: &mut Group, settings: &Settings) {
-    let mut left = Fault::ALL.to_vec();
+    let mut left = Fault::ENDS.to_vec();
     let mut sources: Vec<Source> = Source::all(settings.seed, settings.calls).collect();
     let mut calls = 0;
     while !left.is_empty() && sources.iter().any(|source| !source.is_finished()) {
@@ -130,7 +133,7 @@ fn find(
     }
 }
 
-fn not_found(fault: Fault, tried: &str) -> String {
+pub fn not_found(fault: Fault, tried: &str) -> String {
     format!(
         "{} was not found in {tried}: {}",
         fault.name(),

@@ -18,7 +18,7 @@ pub use messages::{Incoming, Outgoing};
 pub use region::{number_at, Message, Region, HEADER};
 
 use crate::link::fault::{planted, unless, Fault};
-use crate::link::layout::Request;
+use crate::link::layout::{self, Request};
 use crate::link::refusal::Refusal;
 use runs::Runs;
 
@@ -191,5 +191,5 @@ fn apart(one: &Region, other: &Region) -> bool {
         let wrong = raw.start..raw.end.saturating_add(1);
         unless(Fault::TouchingRefused, raw, wrong)
     });
-    one.end <= other.start || other.end <= one.start
+    layout::apart(&one, &other)
 }
