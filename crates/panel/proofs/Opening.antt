@@ -7,7 +7,7 @@ use native.Mathlib.Omega.{arith}
 use lib.Dec.{leb, eqb}
 use lib.ListN.{length, take, length-take}
 use lib.Seq.{take-all}
-use borrow.Author.Tests.{eq-eqb, ne-eqb, leb-true, leb-false, lt-leb}
+use borrow.Author.Tests.{eq-eqb, ne-eqb, leb-true, leb-false}
 use Rattle.wire.specs.Choice.{check, passed}
 use Rattle.wire.proofs.Choices.{passed-refused}
 use Rattle.refusal.specs.Numbers.{numberOf}
@@ -20,8 +20,9 @@ use Rattle.region.specs.declared.LayoutAnswer.the-variants.{Accepted, Refused}
 use Rattle.region.proofs.AcceptedLayouts.{accepted-layouts-lie-inside}
 use Rattle.region.proofs.PlainLayouts.{accepted-plain}
 use Rattle.icmsg.specs.Ring.{readIndexAt, indexAt, isSound}
-use Rattle.icmsg.specs.Rules.{Outcome, refusal, fitNumber, pushNumber, pushed, pushRule}
+use Rattle.icmsg.specs.Rules.{Outcome, refusal, pushNumber, pushed, pushRule}
 use Rattle.icmsg.specs.declared.Ring.{Ring}
+use Rattle.icmsg.proofs.Checks.{too-long as cannot-fit}
 use Rattle.unit.specs.Opening.{Opened as Opened-unit}
 use Rattle.unit.specs.Answers.{openedNumber as unitNumber, openedOf}
 use Rattle.unit.specs.declared.Opened.{Opened as UnitOpened}
@@ -69,8 +70,8 @@ call-is (Opened.Refused x) m g f h e = rw (← h) (sym (passed-refused (numberOf
 -- ---- a content that is too long is so by its first 65,536 bytes
 
 too-long : (n : ℕ) (g : Ring) (r w m : ℕ) → 65535 < m → pushNumber n g r w m ≡ check (isSound n g w) 6 11
-unfolding pushNumber fitNumber
-too-long n g r w m h = rw (lt-leb m 65535 h)
+unfolding pushNumber
+too-long n g r w m h = rw (← cannot-fit (g .«data_length») r w m h)
 
 both-refused : (x : Bool) (a b : Outcome) → passed (check x 6 11) a refusal ≡ passed (check x 6 11) b refusal
 both-refused true a b = refl
