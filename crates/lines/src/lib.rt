@@ -85,7 +85,7 @@ impl Line {
         write_first(&bytes, self.length);
     }
 
-    // What a refusal means, in three parts: of regions and rings, of arriving control messages, and the rest.
+    // What a refusal means, in four parts: of regions and rings, of arriving control messages, of other calls of an end, and the rest.
     pub fn meaning(self, x: Refusal) -> Line {
         match x {
             Refusal::BadAlignment => self.text(b"alignment outside the limits"),
@@ -124,7 +124,18 @@ impl Line {
             Refusal::NoPlace => self.text(b"eight are there already"),
             Refusal::CannotFit => self.text(b"longer than can fit"),
             Refusal::NoRoom => self.text(b"no run of free blocks is long enough"),
-            _ => self.text(b"no such message starts there"),
+            Refusal::NoMessage => self.text(b"no such message starts there"),
+            _ => self.other_meaning(x),
+        }
+    }
+
+    fn other_meaning(self, x: Refusal) -> Line {
+        match x {
+            Refusal::ShortBuffer => self.text(b"buffer shorter than the content"),
+            Refusal::BadPath => self.text(b"path empty, too long, or through a tag below 0x80"),
+            Refusal::BadHandSheet => self.text(b"hand-set sheet malformed"),
+            Refusal::BadIncomingSheet => self.text(b"incoming sheet malformed"),
+            _ => self.text(b"in neither sheet"),
         }
     }
 }

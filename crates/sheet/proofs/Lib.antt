@@ -1,0 +1,10 @@
+pub mod Tags
+pub mod Steps
+pub mod Walks
+pub mod Places
+pub mod Paths
+pub mod Picks
+pub mod Trees
+pub mod TreeValues
+pub mod OnePlace
+pub mod Promises
