@@ -16,10 +16,10 @@ panel = target/staticlib/libpanel.a
 script = target/staticlib/libscript.a
 rounds = target/staticlib/librounds.a
 compared = target/second/release/second
-shown = layout ring unit
+shown = layout ring unit sheets
 examples = $(shown) hello script
 
-.PHONY: help demo starter ladder panel library script_main script region need-file test examples-test packets second soak faults bench \
+.PHONY: help demo starter ladder gauge panel library script_main script region need-file test examples-test packets second soak faults bench \
   measure instructions clean
 
 help: ## this list
@@ -27,7 +27,7 @@ help: ## this list
 
 # ---- to see it
 
-demo: $(shown:%=target/examples/%) target/bin/demo ## layout, ring and units from C, then two ends that bind an endpoint and pass messages
+demo: $(shown:%=target/examples/%) target/bin/demo ## layout, ring, units and sheets from C, then two ends that bind an endpoint and talk
 	@for name in $(shown); do target/examples/$$name; echo; done
 	@target/bin/demo
 
@@ -37,9 +37,12 @@ starter: target/bin/starter ## run the program to begin one's own from, in Rattl
 ladder: target/bin/ladder ## the same for plain units: a panel and the unit of a ladder truck in one process
 	@target/bin/ladder
 
+gauge: target/bin/gauge ## the same for sheets: a pump's calibration, set by hand or incoming
+	@target/bin/gauge
+
 # ---- to use it
 
-panel: $(panel) ## the library for C, layout, ring and plain units: target/staticlib/libpanel.a
+panel: $(panel) ## the library for C, layout, ring, plain units and sheets: target/staticlib/libpanel.a
 library: $(panel) $(script) ## that, and the library that runs call scripts: target/staticlib/libscript.a
 script_main: target/bin/script_main ## the program that runs a call script from standard input: target/bin/script_main < FILE
 
@@ -76,8 +79,9 @@ faults: second ## faults planted in the second program, and how soon the compari
 
 # ---- to measure it
 
-bench: target/bench/ring target/bench/calls ## nanoseconds of the proved ring and calls and of plain C, side by side
+bench: $(addprefix target/bench/,ring sheets calls) ## nanoseconds of the proved ring, pick and calls and of plain C, side by side
 	@target/bench/ring
+	@target/bench/sheets
 	@target/bench/calls
 
 measure: $(panel) $(rounds) target/bench/calls ## stack and copies of the compiled calls, and the size of an end
@@ -127,14 +131,15 @@ target/bench/%.o: bench/%.c $(wildcard bench/*.h include/*.h)
 	@mkdir -p $(@D)
 	@gcc $(CFLAGS) -Ibench -c -o $@ $<
 
-# Rattle's back end compiles at -O3, so the plain ring is measured at both.
-plain_calls = start push pull unit_start unit_push unit_receive
-target/bench/plain_ring_O3.o: bench/plain_ring.c $(wildcard bench/*.h)
+# Rattle's back end compiles at -O3, so the plain ring and the plain pick are measured at both.
+plain_calls = start push pull unit_start unit_push unit_receive pick
+target/bench/%_O3.o: bench/%.c $(wildcard bench/*.h)
 	@mkdir -p $(@D)
 	@gcc $(CFLAGS) -O3 $(foreach call,$(plain_calls),-Dplain_$(call)=plain_$(call)_O3) -Ibench -c -o $@ $<
 
 target/bench/ring: target/bench/ring.o target/bench/plain_ring.o target/bench/plain_ring_O3.o $(panel)
+target/bench/sheets: target/bench/sheets.o target/bench/plain_sheet.o target/bench/plain_sheet_O3.o $(panel)
 target/bench/packets: target/bench/packets.o $(panel)
 target/bench/calls: target/bench/calls.o target/bench/plain_end.o target/bench/plain_open.o $(rounds)
-target/bench/ring target/bench/packets target/bench/calls:
+target/bench/ring target/bench/sheets target/bench/packets target/bench/calls:
 	@gcc $(CFLAGS) -o $@ $^

@@ -1,5 +1,6 @@
 # Reads `objdump -dr` of a library: of each function the bytes of stack that its own frame takes, those that it takes with all that it
-# calls, and the copies that it makes by memcpy, with their sizes where they are constants.
+# calls, and the copies that it makes by memcpy, with their sizes where they are constants. A function that calls itself is marked, and
+# counted once: how often it does is not in the code.
 /^[0-9a-f]+ <.*>:$/ {
     name = $0
     sub(/^[0-9a-f]+ </, "", name)
@@ -17,6 +18,7 @@ entry && /\tsub .*,%rsp/ {
     frame[name] += hexadecimal(substr($0, RSTART + 3, RLENGTH - 3))
     if ($0 !~ /\$0x1000,/) entry = 0
 }
+/\tcall / && index($0, "<" name ">") { itself[name] = "calls itself " }
 /,%[er]dx$/ { size = "" }
 /\tmov .*\$0x[0-9a-f]+,%edx/ {
     match($0, /\$0x[0-9a-f]+/)
@@ -51,5 +53,5 @@ function deep(f,    parts, n, i, most, d) {
 END {
     printf "%-34s %8s %12s   %s\n", "function", "stack", "with calls", "bytes copied"
     for (i = 1; i <= count; i++)
-        printf "%-34s %8d %12d   %s\n", names[i], frame[names[i]], deep(names[i]), copies[names[i]]
+        printf "%-34s %8d %12d   %s\n", names[i], frame[names[i]], deep(names[i]), itself[names[i]] copies[names[i]]
 }

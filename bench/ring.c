@@ -1,21 +1,19 @@
 /* The proved ring and the plain C ring side by side, then the ring of a plain unit in the same way: nanoseconds for a push and a
  * pull together, by the content's length, for a pull that finds nothing, and for a start. Both have the same interface, layout and
- * checks. The plain one is compiled twice, with -O2 and with -O3. Each round runs them one after the other, and the least of all
- * rounds counts. */
+ * checks. */
 #include "seconds.h"
 
 #include "plain_ring.h"
+#include "side_by_side.h"
 
 #include <petrelknob.h>
-#include <stdio.h>
-#include <stdlib.h>
 #include <string.h>
 
 /* 256 blocks each way: the ring then has 8,156 data bytes, enough for the longest content. A unit's region has as many, and no more. */
 enum { BEGIN = 0x20070000, LENGTH = 32768, END = BEGIN + LENGTH, BLOCKS = 256, ALIGNMENT = 32, LONGEST = 4000 };
 enum { UNIT_LENGTH = 8192, UNIT_END = BEGIN + UNIT_LENGTH };
-/* Rounds are short, so that some of them have the processor to themselves. */
-enum { CALLS = 20000, ROUNDS = 401 };
+/* Of a round, with a short content. */
+enum { CALLS = 20000 };
 
 /* The length, the own index and the bytes dropped. */
 enum { NUMBERS = 3 };
@@ -53,7 +51,6 @@ struct calls {
     unit_receive_call *unit_receive;
 };
 
-enum { PLAIN, PLAIN_O3, PROVED, WAYS };
 static const struct calls rings[WAYS] = {
     [PLAIN] = {.start = plain_start, .push = plain_push, .pull = plain_pull},
     [PLAIN_O3] = {.start = plain_start_O3, .push = plain_push_O3, .pull = plain_pull_O3},
@@ -64,14 +61,6 @@ static const struct calls units[WAYS] = {
     [PLAIN_O3] = {.unit_start = plain_unit_start_O3, .unit_push = plain_unit_push_O3, .unit_receive = plain_unit_receive_O3},
     [PROVED] = {.unit_start = petrelknob_unit_start, .unit_push = petrelknob_unit_push, .unit_receive = petrelknob_unit_receive},
 };
-
-static void expect(int met, const char *what)
-{
-    if (met)
-        return;
-    fprintf(stderr, "%s\n", what);
-    exit(1);
-}
 
 /* Each is one call, of the ring or of the unit. A test says which: a function in between would be measured too. */
 
@@ -123,26 +112,27 @@ static void starts(const struct calls *calls, size_t length, uint32_t times)
 
 typedef void work(const struct calls *, size_t, uint32_t);
 
-/* Nanoseconds for one of `times`, on a cleared region. */
-static double round_of(work *work, const struct calls *calls, size_t length, uint32_t times)
+struct scene {
+    work *work;
+    const struct calls *ways;
+    size_t length;
+};
+
+/* On a cleared region. */
+static double round_of(const void *measured, int way)
 {
+    const struct scene *scene = measured;
+    uint32_t times = scene->length < 100 ? CALLS : CALLS / 4;
     memset(region, 0, sizeof region);
     double began = seconds();
-    work(calls, length, times);
+    scene->work(&scene->ways[way], scene->length, times);
     return 1e9 * (seconds() - began) / times;
 }
 
 static void compare(const char *what, work *work, const struct calls ways[WAYS], size_t length)
 {
-    uint32_t times = length < 100 ? CALLS : CALLS / 4;
-    double least[WAYS] = {1e9, 1e9, 1e9};
-    for (int r = 0; r < ROUNDS; r++)
-        for (int i = 0; i < WAYS; i++) {
-            double took = round_of(work, &ways[i], length, times);
-            least[i] = took < least[i] ? took : least[i];
-        }
-    printf("%-33s %8.1f %8.1f %8.1f %9.2f %6.2f\n", what, least[PLAIN], least[PLAIN_O3], least[PROVED],
-           least[PROVED] / least[PLAIN], least[PROVED] / least[PLAIN_O3]);
+    struct scene scene = {work, ways, length};
+    print_row(what, round_of, &scene);
 }
 
 static void compare_all(const struct calls ways[WAYS], const char *pair, const char *look, const char *beginning)
@@ -162,7 +152,7 @@ int main(void)
     for (size_t i = 0; i < sizeof content; i++)
         content[i] = (uint8_t)(i * 7 + 1);
 
-    printf("%-33s %8s %8s %8s %9s %6s\n", "nanoseconds", "C -O2", "C -O3", "proved", "to -O2", "to -O3");
+    print_head("nanoseconds");
     compare_all(rings, "push and pull", "pull of an empty ring", "start");
     compare_all(units, "unit push and receive", "unit receive of an empty ring", "unit start");
     return 0;

@@ -3,8 +3,9 @@
 #define TWO_PROCESSES_H
 
 #define _DEFAULT_SOURCE
+#include "told.h"
+
 #include <petrelknob.h>
-#include <stdio.h>
 #include <stdlib.h>
 #include <sys/mman.h>
 #include <sys/wait.h>
@@ -18,12 +19,6 @@ static inline void expect_accepted(const char *who, const char *call, uint32_t n
         return;
     printf("%s: %s refused, number %u: %s\n", who, call, (unsigned)number, petrelknob_meaning(number));
     exit(1);
-}
-
-static inline uint32_t told(const char *what, uint32_t number)
-{
-    printf("%s: number %u, %s\n", what, (unsigned)number, petrelknob_meaning(number));
-    return number;
 }
 
 /* Whether to try once more: 1 at once for the first try, then after a pause, and 0 after ten seconds at least. A real link would

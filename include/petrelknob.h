@@ -10,6 +10,8 @@
  * They differ where a packet is longer than the buffer: pull cuts it to the buffer and takes it, receive leaves it on the ring and
  * says 26.
  *
+ * Sheets, where what is set by hand wins over what comes in, are in petrelknob_sheet.h, and in the same library.
+ *
  * There are two ways to call. The struct keeps what belongs to one direction of a link, or to one side of a plain one, and its calls
  * are short: begin there. The functions before it take every number at every call, and keep nothing.
  *

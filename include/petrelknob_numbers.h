@@ -1,12 +1,12 @@
-/* Petrelknob's numbers: what a call returns, and what that means. petrelknob.h includes it. */
+/* Petrelknob's numbers: what a call returns, and what that means. petrelknob.h and petrelknob_sheet.h include it. */
 #ifndef PETRELKNOB_NUMBERS_H
 #define PETRELKNOB_NUMBERS_H
 
 #include <stdint.h>
 
 /* What a call returns: 0, or the number of the first check that failed. petrelknob_meaning has a sentence for each; layout and
- * ring give 1 to 4 and 6 to 11, a plain unit 1, 3 to 11 and 26, the others are of a whole end. A refused call changes no byte but
- * those of its answer, and on 9 the read index. */
+ * ring give 1 to 4 and 6 to 11, a plain unit 1, 3 to 11 and 26, a pick 27 to 30, the others are of a whole end. A refused call changes
+ * no byte but those of its answer, and on 9 the read index. */
 enum petrelknob_number {
     PETRELKNOB_ACCEPTED = 0,
     PETRELKNOB_BAD_ALIGNMENT = 1,
@@ -34,7 +34,11 @@ enum petrelknob_number {
     PETRELKNOB_CANNOT_FIT = 23,
     PETRELKNOB_NO_ROOM = 24,
     PETRELKNOB_NO_MESSAGE = 25,
-    PETRELKNOB_SHORT_BUFFER = 26
+    PETRELKNOB_SHORT_BUFFER = 26,
+    PETRELKNOB_BAD_PATH = 27,
+    PETRELKNOB_BAD_HAND_SHEET = 28,
+    PETRELKNOB_BAD_INCOMING_SHEET = 29,
+    PETRELKNOB_NOT_FOUND = 30
 };
 
 /* What a number means, in words. Any number has an answer. */
@@ -68,6 +72,10 @@ static inline const char *petrelknob_meaning(uint32_t number)
     case PETRELKNOB_NO_ROOM: return "no run of free blocks is long enough";
     case PETRELKNOB_NO_MESSAGE: return "no message starts there in the state that the call needs";
     case PETRELKNOB_SHORT_BUFFER: return "the buffer is shorter than the content, which stays on the ring";
+    case PETRELKNOB_BAD_PATH: return "the path has no tag or over five, or passes through a tag below 0x80";
+    case PETRELKNOB_BAD_HAND_SHEET: return "the hand-set sheet is malformed";
+    case PETRELKNOB_BAD_INCOMING_SHEET: return "the incoming sheet is malformed";
+    case PETRELKNOB_NOT_FOUND: return "neither sheet has the path";
     default: return "no such number";
     }
 }

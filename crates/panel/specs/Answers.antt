@@ -6,6 +6,7 @@ use lib.ListN.{length, take}
 use Rattle.wire.specs.Bytes.{straight, writes, wrote}
 use Rattle.region.specs.Layout.{Outcome}
 use Rattle.icmsg.specs.Rules.{Answer, lengthIn, droppedIn, indexAfter}
+use Rattle.sheet.specs.Picks.{Outcome as Pick}
 
 -- the caller's numbers s after an answer: as many of the answer's as fit, and the rest of s as it was
 unfoldable pub answered : List ℕ → List ℕ → List ℕ
@@ -23,3 +24,7 @@ ringNumbers own a = lengthIn a ∷ indexAfter own a ∷ droppedIn a ∷ []
 abbrev pub yesNumber : Bool → ℕ
 yesNumber true = 1
 yesNumber false = 0
+
+-- the three numbers of a pick's answer: 1 for the incoming sheet, the part's begin in its sheet, and its size
+abbrev pub pickNumbers : Pick → List ℕ
+pickNumbers o = yesNumber (o .incoming) ∷ o .begin ∷ o .size ∷ []

@@ -1,18 +1,22 @@
-// The interface for C: layout, start, push and pull, and those of plain units, on numbers and slices. include/petrelknob.h declares it.
+// The interface for C: layout, start, push and pull, those of plain units, and the pick of sheets, on numbers and slices. include/petrelknob.h
+// and include/petrelknob_sheet.h declare it.
 ghost use mathlib.Core.Path.{_≡_};
+ghost use Prim.Native.Nat.{_+_, _≤_};
 ghost use lib.ListN.{length, set};
 ghost use Rattle.wire.specs.Bytes.{wrote, same};
 ghost use Rattle.wire.specs.Reads.{answer as read};
 ghost use Rattle.region.specs.Layout.{layout, plain, outcomeOf as layoutOf};
 ghost use Rattle.icmsg.specs.Ring.{startContent};
 ghost use Rattle.icmsg.specs.Rules.{answerOf, answerNumber, startRule, pushRule, pullRule, receiveRule};
-ghost use Rattle.panel.specs.Answers.{answered, layoutNumbers, ringNumbers, yesNumber};
+ghost use Rattle.sheet.specs.Picks.{pickOf, outcomeOf};
+ghost use Rattle.panel.specs.Answers.{answered, layoutNumbers, ringNumbers, pickNumbers, yesNumber};
 ghost use Rattle.panel.specs.Calls.{openNumber, ringIn, startCall, pushCall, pullCall, receiveCall, LiesIn, openedNumber, OpensRing, onRing};
 ghost use Rattle.unit.specs.Opening.{opening};
 use icmsg::Ring;
 use icmsg::RingAnswer;
 use refusal::Refusal;
 use region::LayoutAnswer;
+use sheet::Picked;
 use unit::Bounds;
 use unit::OpenAnswer;
 use unit::Opening;
@@ -347,4 +351,35 @@ pub extern "C" fn petrelknob_unit_receive(
     let y = region::plain(begin, end, alignment);
     let opened = open_ring(y, begin, end, alignment, region.len());
     receive_on(opened, own, region, buffer, answer)
+}
+
+// ---- of sheets
+
+// The place of what a pick gives: which sheet, the begin in it, and the size.
+fn pick_numbers(x: Picked) -> [u32; 3]
+    requires { ⌜ outcomeOf x .begin + outcomeOf x .size ≤ 4096 ⌝ }
+    ensures { λ r. ⌜ r ≡ pickNumbers (outcomeOf x) ⌝ }
+{
+    match x {
+        Picked::InHand { begin, size } => [0, begin as u32, size as u32],
+        Picked::InIncoming { begin, size } => [1, begin as u32, size as u32],
+        Picked::Refused(_) => [0, 0, 0],
+    }
+}
+
+// The number of a pick, and the place of what it gives.
+#[no_mangle]
+pub extern "C" fn petrelknob_pick(
+    hand: &[u8],
+    incoming: &[u8],
+    path: &[u8],
+    answer: &mut [u32],
+) -> u32
+    ensures number { λ r. ⌜ r ≡ pickOf (now (hand .entry)) (now (incoming .entry)) (now (path .entry)) .number ⌝ }
+    ensures values { λ _. ⌜ now (answer .exit) ≡ answered (now (answer .entry)) (pickNumbers (pickOf (now (hand .entry)) (now (incoming .entry)) (now (path .entry)))) ⌝ }
+{
+    let picked = sheet::ask_pick(hand, incoming, path);
+    let numbers = pick_numbers(picked);
+    put_numbers(answer, &numbers);
+    picked.number()
 }
