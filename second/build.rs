@@ -7,7 +7,8 @@ use std::process::exit;
 const FOLDER_VARIABLE: &str = "PETRELKNOB_LIB";
 const DEFAULT_FOLDER: &str = "../target/staticlib";
 
-/// Layout and ring as the panel program reaches them; the call script.
+/// Layout, ring, units and sheets as the panel program reaches them; the call
+/// script.
 const LIBRARIES: [&str; 2] = ["panel", "script"];
 
 fn main() {

@@ -3,10 +3,12 @@
 pub mod layout;
 pub mod looking;
 mod opponent;
+mod plan;
 mod proved;
 mod random;
 mod report;
 pub mod ring;
+pub mod sheet;
 mod tally;
 pub mod traffic;
 mod twin;
@@ -19,11 +21,11 @@ pub use report::Report;
 pub struct Settings {
     /// Decides all random inputs.
     pub seed: u64,
-    /// Random inputs of the layout, of the ring and of the unit comparison,
-    /// divided among their mixtures.
+    /// Random inputs of the layout, of the ring, of the unit and of the sheet
+    /// comparison, divided among their mixtures.
     pub cases: u64,
     /// Calls of the random traffic, divided among its kinds.
     pub calls: u64,
-    /// What the traffic and the units are compared with.
+    /// What the traffic, the units and the sheets are compared with.
     pub opponent: Opponent,
 }

@@ -30,19 +30,10 @@ impl Tally {
         self.check_least(group, call, numbers);
     }
 
-    /// A comparison that hardly met some outcome has shown little about it.
     pub fn check_least(&self, group: &mut Group, call: &str, numbers: &[u32]) {
         for &number in numbers {
-            let occurrences = self.occurrences(number);
-            group.input();
-            if occurrences < LEAST_OCCURRENCES {
-                group.mismatch(|| {
-                    let name = outcome_name(number);
-                    format!(
-                        "{call}: {name} occurred {occurrences} times, under {LEAST_OCCURRENCES}"
-                    )
-                });
-            }
+            let outcome = format!("{call}: {}", outcome_name(number));
+            check_least(group, &outcome, self.occurrences(number));
         }
     }
 
@@ -62,5 +53,15 @@ impl Tally {
 
     pub fn occurrences(&self, number: u32) -> u64 {
         self.occurrences[number as usize]
+    }
+}
+
+/// A comparison that hardly met some outcome has shown little about it.
+pub fn check_least(group: &mut Group, outcome: &str, occurrences: u64) {
+    group.input();
+    if occurrences < LEAST_OCCURRENCES {
+        group.mismatch(|| {
+            format!("{outcome} occurred {occurrences} times, under {LEAST_OCCURRENCES}")
+        });
     }
 }

@@ -83,11 +83,15 @@ impl Outcome {
         [self.length, self.own_index, self.dropped]
     }
 
-    /// Writes as much of the answer as there is space for.
     pub fn write(&self, answer: &mut [u32]) {
-        for (element, value) in answer.iter_mut().zip(self.values()) {
-            *element = value;
-        }
+        write(&self.values(), answer);
+    }
+}
+
+/// Writes as much of a whole answer as there is space for.
+pub fn write(values: &[u32], answer: &mut [u32]) {
+    for (element, &value) in answer.iter_mut().zip(values) {
+        *element = value;
     }
 }
 

@@ -29,7 +29,7 @@ refusals! {
     BadBlockCount = 2,
     /// the region's begin is not below its end, or it has over 1,048,576 bytes
     BadBounds = 3,
-    /// the region is too small for its ring and blocks
+    /// the region is too small for its ring, or for its blocks of one alignment each
     TooSmall = 4,
     /// the two regions share a byte
     Overlap = 5,
@@ -75,6 +75,14 @@ refusals! {
     NoMessage = 25,
     /// the buffer is shorter than the content
     ShortBuffer = 26,
+    /// the path has no tag or over five, or passes through a tag below 0x80
+    BadPath = 27,
+    /// the hand-set sheet is malformed
+    BadHandSheet = 28,
+    /// the incoming sheet is malformed
+    BadIncomingSheet = 29,
+    /// neither sheet has the path
+    NotFound = 30,
 }
 
 /// A check that fails if something is the case.

@@ -347,7 +347,7 @@ pub fn refused(group: &mut Group) {
         (
             Request { local_blocks: 256, ..usual },
             2048,
-            "refused with 4: the region is too small for its ring and blocks",
+            "refused with 4: the region is too small for its ring, or for its blocks of one alignment each",
         ),
         (usual, 2047, "refused with 6: the region has 2048 bytes and the file 2047"),
         (usual, 0, "refused with 6: the region has 2048 bytes and the file 0"),

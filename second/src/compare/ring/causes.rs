@@ -11,7 +11,7 @@ use crate::compare::layout::inputs::{corner, LAST};
 use crate::compare::random::{Pool, Random};
 use crate::compare::twin::Twin;
 use crate::link::layout::{ring_minimum, Request, Ringed, ALIGNMENTS, LARGEST_REGION, MOST_BLOCKS};
-use crate::link::outcome::Outcome;
+use crate::link::outcome::{Outcome, ANSWER};
 use crate::link::ring::{past, Ring, LONGEST_CONTENT, UNIT};
 
 /// Brings one cause of refusal into a call.
@@ -71,7 +71,7 @@ impl Asked {
     pub fn any(random: &mut Random, choice: Choice) -> Self {
         Asked {
             choice,
-            answer_length: answer_length(random),
+            answer_length: answer_length(random, ANSWER),
         }
     }
 }

@@ -6,6 +6,7 @@ use crate::compare::layout::inputs::{corner, MIXTURES};
 use crate::compare::random::{Pool, Random};
 use crate::compare::twin::Twin;
 use crate::link::layout::{Request, Ringed, LARGEST_REGION};
+use crate::link::outcome::ANSWER;
 
 /// A partner that writes what it likes to the region between two calls.
 pub fn hostile_partner(calls: &mut Calls, random: &mut Random, pool: &Pool, share: u64) {
@@ -35,7 +36,7 @@ fn hostile_call(
     let call = Call {
         request: place.request,
         own_index: indexes.own,
-        answer_length: answer_length(random),
+        answer_length: answer_length(random, ANSWER),
         stated: None,
     };
     if random.one_in(2) {
@@ -188,7 +189,7 @@ fn refused_call(
     let call = Call {
         request,
         own_index: corner(random),
-        answer_length: answer_length(random),
+        answer_length: answer_length(random, ANSWER),
         stated: None,
     };
     let lent_length = region.second().len();

@@ -4,7 +4,6 @@ use crate::compare::layout::inputs::{good_numbers, Numbers, LAST, USUAL};
 use crate::compare::random::Random;
 use crate::link::end::Region;
 use crate::link::layout::{lay_out, ring_header, Request, Ringed, ALIGNMENTS};
-use crate::link::outcome::ANSWER;
 use crate::link::ring::{Ring, LONGEST_CONTENT, UNIT};
 
 /// The most bytes of a region that is called small.
@@ -181,7 +180,8 @@ pub fn buffer_length(random: &mut Random, most: usize) -> usize {
     random.below(bound) as usize
 }
 
-/// The length of an answer; some have no space for all numbers, some have more.
-pub fn answer_length(random: &mut Random) -> usize {
-    random.below(2 * ANSWER as u64 + 1) as usize
+/// The length of an answer of so many values; some have no space for all of
+/// them, some have more.
+pub fn answer_length(random: &mut Random, values: usize) -> usize {
+    random.below(2 * values as u64 + 1) as usize
 }

@@ -8,6 +8,7 @@ use crate::compare::layout::inputs::MIXTURES;
 use crate::compare::proved;
 use crate::compare::random::{Pool, Random};
 use crate::compare::twin::Twin;
+use crate::link::outcome::ANSWER;
 use crate::link::ring::is_start;
 
 /// The start content as it is stated.
@@ -92,7 +93,7 @@ fn any_opening(calls: &mut Calls, random: &mut Random, pool: &Pool) -> u64 {
     let call = Call {
         request,
         own_index: 0,
-        answer_length: answer_length(random),
+        answer_length: answer_length(random, ANSWER),
         stated: None,
     };
     calls.start(&call, &mut region);

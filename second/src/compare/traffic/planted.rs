@@ -1,12 +1,13 @@
 //! Plants faults in the second implementation and sees that the traffic finds
-//! them, and the unit comparison those of units.
+//! them, the unit comparison those of units, and the sheet comparison those of
+//! sheets.
 
 use super::case::Case;
 use super::shrink::shortest;
 use super::{honest, newer_partner, Batch, Source};
 use crate::compare::random::Random;
 use crate::compare::report::{Group, Report};
-use crate::compare::{unit, Opponent, Settings};
+use crate::compare::{sheet, unit, Opponent, Settings};
 use crate::link::fault::{self, Fault};
 
 /// Faults that make changes of a newer partner matter.
@@ -35,7 +36,10 @@ pub fn run(settings: &Settings, report: &mut Report) {
         find_all(group, settings);
     });
     report.group("faults: the unit comparison finds every one", |group| {
-        unit::find_all(group, settings);
+        unit::PLAN.find_all(settings, group);
+    });
+    report.group("faults: the sheet comparison finds every one", |group| {
+        sheet::PLAN.find_all(settings, group);
     });
     report.group("faults: a newer partner brings them out", |group| {
         for fault in NEWER_FAULTS {

@@ -1,11 +1,11 @@
 //! The calls of units that are compared, counted, and what was found different.
 
 use super::side::{Action, Lent, Side};
+use crate::compare::plan;
 use crate::compare::report::Group;
 use crate::compare::ring::calls::Call;
 use crate::compare::tally::Tally;
 use crate::compare::twin::{Twin, PATTERN};
-use crate::compare::Opponent;
 use crate::link::outcome::ANSWER;
 use crate::link::refusal::outcome_name;
 use crate::link::unit::{Opening, Plain};
@@ -17,39 +17,16 @@ const PUSH: [u32; 8] = [0, 1, 3, 4, 6, 7, 10, 11];
 const RECEIVE: [u32; 9] = [0, 1, 3, 4, 6, 7, 8, 9, 26];
 
 #[derive(Default)]
-struct Tallies {
+pub struct Tallies {
     open: Tally,
     start: Tally,
     push: Tally,
     receive: Tally,
 }
 
-/// A difference, and how many calls had been made then.
-pub struct Difference {
-    pub calls: u64,
-    words: String,
-}
-
-pub struct Calls {
-    pub opponent: Opponent,
-    tallies: Tallies,
-    pub made: u64,
-    /// Calls that a group has counted.
-    told: u64,
-    pub differences: Vec<Difference>,
-}
+pub type Calls = plan::Calls<Tallies>;
 
 impl Calls {
-    pub fn new(opponent: Opponent) -> Self {
-        Calls {
-            opponent,
-            tallies: Tallies::default(),
-            made: 0,
-            told: 0,
-            differences: Vec::new(),
-        }
-    }
-
     /// An opening. What must come of it may be stated.
     pub fn open(&mut self, opening: &Opening, stated: Option<u32>) {
         let second = Side::Second.open(opening);
@@ -131,33 +108,16 @@ impl Calls {
         };
         tally.count(number);
     }
+}
 
-    pub fn differ(&mut self, describe: impl FnOnce() -> String) {
-        self.differences.push(Difference {
-            calls: self.made,
-            words: describe(),
-        });
-    }
-
-    /// Tells the group what has been made and found since the last time.
-    pub fn tell(&mut self, group: &mut Group) {
-        for _ in self.told..self.made {
-            group.input();
-        }
-        self.told = self.made;
-        for difference in self.differences.drain(..) {
-            group.mismatch(|| format!("call {}, {}", difference.calls, difference.words));
-        }
-    }
-
-    /// Every number of the rules must have come up, and no other.
-    pub fn check_outcomes(&self, group: &mut Group) {
+impl plan::Tallies for Tallies {
+    fn check(&self, group: &mut Group) {
         let Tallies {
             open,
             start,
             push,
             receive,
-        } = &self.tallies;
+        } = self;
         for (tally, call, numbers) in [
             (open, "unit open", &OPEN[..]),
             (start, "unit start", &START),

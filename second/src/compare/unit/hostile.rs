@@ -9,6 +9,7 @@ use crate::compare::ring::calls::Call;
 use crate::compare::ring::hostile::{hostile_length, scribble, Indexes};
 use crate::compare::ring::inputs::{answer_length, content_length, Place, SMALL_REGION};
 use crate::compare::twin::Twin;
+use crate::link::outcome::ANSWER;
 use crate::link::unit::Plain;
 
 /// A partner that writes what it likes to the region between two calls.
@@ -99,7 +100,7 @@ fn call(random: &mut Random, request: Plain, own_index: u32) -> Call<Plain> {
     Call {
         request,
         own_index,
-        answer_length: answer_length(random),
+        answer_length: answer_length(random, ANSWER),
         stated: None,
     }
 }

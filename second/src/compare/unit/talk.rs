@@ -222,7 +222,7 @@ impl Talk {
     /// All pairs make the same call, and must get what is stated. A talk that
     /// has gone wrong says nothing more.
     fn make(&mut self, calls: &mut Calls, step: &Step) {
-        if !calls.differences.is_empty() {
+        if calls.has_differences() {
             return;
         }
         let place = self.places[step.region];
