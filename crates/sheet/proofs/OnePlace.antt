@@ -5,14 +5,14 @@ use mathlib.Core.List.{List, [], _∷_, _++_}
 use mathlib.Core.Path.{_≡_, refl, sym, subst, _∙_}
 use native.Mathlib.Nat.{sub-zero}
 use native.Mathlib.Omega.{arith}
-use lib.Dec.{leb, eqb}
-use lib.ListN.{length, length-append}
-use lib.Seq.{take-append-seam}
-use borrow.Author.Tests.{not-true, le-leb, eq-eqb}
+use lib.Dec.{eqb}
+use lib.ListN.{length}
+use borrow.Author.Tests.{not-true, eq-eqb}
+use Rattle.wire.specs.Choice.{pick}
 use Rattle.wire.proofs.Choices.{both}
-use Rattle.sheet.specs.Sheets.{Part, nowhere, part, isGroup, has, isField, areFields, isList, isSheet, find, onward, lead, placeOf, throughGroups}
+use Rattle.sheet.specs.Sheets.{Part, nowhere, part, isGroup, has, isField, areFields, isList, find, onward, lead, placeOf, throughGroups}
 use Rattle.sheet.specs.Laws.{Framed, areWhole, Leads, OnePlace, allGroups, GroupsAreLists}
-use Rattle.sheet.proofs.Steps.{field-inner}
+use Rattle.sheet.proofs.Steps.{fields-of, find-of, sheet-says}
 use Rattle.sheet.proofs.Places.{nowhere≢part, find-found, lead-leads}
 
 -- ---- a field of a list of fields
@@ -21,27 +21,21 @@ use Rattle.sheet.proofs.Places.{nowhere≢part, find-found, lead-leads}
 abbrev around : List ℕ → ℕ → List ℕ → List ℕ → List ℕ
 around before t v after = before ++ t ∷ length v ∷ v ++ after
 
--- its tag is new, it is in rule, and a search for its tag finds it
+-- its tag is new, its value is an inner list if it is a group, and a search for its tag finds it
 record Only (g : List ℕ → Bool) (tags : List ℕ) (t a n : ℕ) (before v after : List ℕ) : Type 0 where
   is-new : has tags t ≡ false
-  in-rule : isField g t (length v) (v ++ after) ≡ true
+  inner : isGroup t ≡ true → g v ≡ true
   is-found : find t a n (around before t v after) ≡ part (a + length before + 2) v
 
 only-here : (g : List ℕ → Bool) (tags : List ℕ) (t a : ℕ) (v after : List ℕ) → areFields g tags 0 (around [] t v after) ≡ true → Only g tags t a 0 [] v after
-unfolding areFields find
 only-here g tags t a v after h =
-    let x = both (not (has tags t)) (isField g t (length v) (v ++ after) && areFields g (t ∷ tags) (length v) (v ++ after)) h in
+    let x = both (not (has tags t)) (pick (isGroup t) (g v) true && areFields g (t ∷ tags) 0 after) (sym (fields-of t v after g tags) ∙ h) in
+    let y = both (pick (isGroup t) (g v) true) (areFields g (t ∷ tags) 0 after) (x .1) in
     let z : a + 0 + 2 ≡ a + 2 = omega arith in
     record {
       is-new = not-true (has tags t) (x .0);
-      in-rule = both (isField g t (length v) (v ++ after)) (areFields g (t ∷ tags) (length v) (v ++ after)) (x .1) .0;
-      is-found =
-          rw (
-            eq-eqb t t refl,
-            le-leb (length v) (length (v ++ after)) (omega (arith, length-append v after)),
-            take-append-seam v after,
-            z,
-          );
+      inner = λ e. rw e at (y .0);
+      is-found = find-of t v after t a ∙ rw (eq-eqb t t refl, z);
     }
 
 field-only : (g : List ℕ → Bool) (tags : List ℕ) (t a n : ℕ) (before v after : List ℕ) → areWhole n before ≡ true →
@@ -51,7 +45,7 @@ field-only g tags t a (suc n) [] v after w h = absurd (false≢true w)
 field-only g tags t a (suc n) (x ∷ before) v after w h =
     let z : a + 1 + length before + 2 ≡ a + suc (length before) + 2 = omega arith in
     let o = field-only g tags t (a + 1) n before v after w h in
-    record { is-new = o .is-new; in-rule = o .in-rule; is-found = o .is-found ∙ rw z }
+    record { is-new = o .is-new; inner = o .inner; is-found = o .is-found ∙ rw z }
 field-only g tags t a zero [] v after w h = only-here g tags t a v after h
 field-only g tags t a zero (u ∷ []) v after w h = absurd (false≢true w)
 field-only g tags t a zero (u ∷ m ∷ before) v after w h =
@@ -60,7 +54,7 @@ field-only g tags t a zero (u ∷ m ∷ before) v after w h =
     let o = field-only g (u ∷ tags) t (a + 2) m before v after w (both (isField g u m rest) (areFields g (u ∷ tags) m rest) (x .1) .1) in
     let y = neither (eqb u t) (has tags t) (o .is-new) in
     let z : a + 2 + length before + 2 ≡ a + suc (suc (length before)) + 2 = omega arith in
-    record { is-new = y .1; in-rule = o .in-rule; is-found = rw (y .0) (o .is-found ∙ rw z) }
+    record { is-new = y .1; inner = o .inner; is-found = rw (y .0) (o .is-found ∙ rw z) }
   where
     neither : (x y : Bool) → (x || y) ≡ false → (x ≡ false) × (y ≡ false)
     neither false y e = (refl, e)
@@ -86,7 +80,7 @@ alone (suc d) t a s b v l f w =
     let o = field-only (isList d) [] t a 0 (f .before) v (f .after) w (subst (λ (x : List ℕ). areFields (isList d) [] 0 x ≡ true) (f .bytes) l) in
     record {
       is-found = rw (f .bytes, f .begin) (o .is-found);
-      inner = λ h. rw (z, ← take-append-seam v (f .after)) (field-inner (isList d) t (length v) (v ++ f .after) (o .in-rule) h);
+      inner = λ h. rw z (o .inner h);
     }
 
 -- ---- a path
@@ -103,16 +97,12 @@ leads-only d (t ∷ u ∷ us) a s b v i g l =
     let y = both (isGroup t) (throughGroups (u ∷ us)) g in
     rw (x .is-found) (leads-only (d - 1) (u ∷ us) (l .begin) (l .bytes) b v (x .inner (y .0)) (y .1) (l .rest))
 
-sheet-list : (s : List ℕ) → isSheet s ≡ true → isList 5 s ≡ true
-unfolding isSheet
-sheet-list s h = both (leb (length s) 4096) (isList 5 s) h .1
-
 pub one-place : OnePlace
 unfolding placeOf
 one-place =
     record {
       leads = λ s path b v f. lead-leads path 0 s b v f;
-      only = λ s path b v h g l. leads-only 5 path 0 s b v (sheet-list s h) g l;
+      only = λ s path b v h g l. leads-only 5 path 0 s b v (sheet-says s h .1) g l;
     }
 
 lead-groups : (d : ℕ) (path : List ℕ) (a : ℕ) (s : List ℕ) (b : ℕ) (v : List ℕ) → isList d s ≡ true → allGroups path ≡ true → lead path a s ≡ part b v →
@@ -137,5 +127,5 @@ lead-groups d (t ∷ ts) a s b v l g f = go (find t a 0 s) refl f (λ c w. lead-
 pub groups-are-lists : GroupsAreLists
 unfolding placeOf
 groups-are-lists s path b v h g f =
-    let x = lead-groups 5 path 0 s b v (sheet-list s h) g f in
+    let x = lead-groups 5 path 0 s b v (sheet-says s h .1) g f in
     (omega (arith, x .0), x .1)

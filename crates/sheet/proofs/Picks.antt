@@ -5,17 +5,16 @@ use mathlib.Core.List.{List}
 use mathlib.Core.Path.{_≡_, refl, sym, subst, _∙_}
 use mathlib.Core.Logic.{_≢_}
 use native.Mathlib.Omega.{arith}
-use lib.Dec.{leb}
 use lib.ListN.{length}
-use borrow.Author.Tests.{leb-true}
 use Rattle.wire.specs.Choice.{pick}
 use Rattle.wire.proofs.Choices.{both}
-use Rattle.sheet.specs.Sheets.{Part, nowhere, part, isList, isPath, isSheet, placeOf}
+use Rattle.sheet.specs.Sheets.{Part, nowhere, part, isPath, isSheet, placeOf}
 use Rattle.sheet.specs.Picks.{Outcome, refused, chosen, first, pickOf, placeIn, outcomeOf}
 use Rattle.sheet.specs.declared.Place.{Place}
 use Rattle.sheet.specs.declared.Place.the-variants.{At, Nowhere}
 use Rattle.sheet.specs.declared.Picked.the-variants.{InHand, InIncoming}
 use Rattle.sheet.specs.Laws.{HandSetFirst, ChecksInOrder, RefusalsEmpty, GivenInside}
+use Rattle.sheet.proofs.Steps.{sheet-says}
 use Rattle.sheet.proofs.Places.{found-inside}
 use Rattle.sheet.proofs.Paths.{Nowhere≢At}
 
@@ -97,15 +96,11 @@ outcomes P hand incoming path refuses finds = go (isPath path) (isSheet hand) re
     go true true h false i = refuses 29
     go true true h true i = finds h i
 
-pub short : (s : List ℕ) → isSheet s ≡ true → length s ≤ 4096
-unfolding isSheet
-short s h = leb-true (length s) 4096 (both (leb (length s) 4096) (isList 5 s) h .0)
-
 pub given-inside : GivenInside
 given-inside hand incoming path =
     outcomes (InSheet hand incoming) hand incoming path
     (λ n. (omega arith, omega arith))
-    (λ h i. go (placeOf hand path) refl (placeOf incoming path) refl (short hand h) (short incoming i))
+    (λ h i. go (placeOf hand path) refl (placeOf incoming path) refl (sheet-says hand h .0) (sheet-says incoming i .0))
   where
     go : (p : Part) → placeOf hand path ≡ p → (q : Part) → placeOf incoming path ≡ q → length hand ≤ 4096 → length incoming ≤ 4096 →
         InSheet hand incoming (first p q)

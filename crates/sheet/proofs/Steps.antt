@@ -1,17 +1,17 @@
 -- Lists and searches step by step, first of the bytes themselves, then of the bytes from position p to e of a sheet.
 use Prim.Native.Nat.{ℕ, zero, suc, _+_, _-_, _≤_, _<_}
 use mathlib.Core.Bool.{Bool, true, false, _&&_, not}
-use mathlib.Core.List.{List, [], _∷_}
+use mathlib.Core.List.{List, [], _∷_, _++_}
 use mathlib.Core.Path.{_≡_, refl, ap, _∙_}
 use native.Mathlib.Nat.{add-zero, zero-add, suc-add}
 use native.Mathlib.Omega.{arith}
-use lib.Dec.{leb}
-use lib.ListN.{length, take, drop, getD}
-use lib.Seq.{slice, slice-empty, slice-cons, take-take, drop-drop, take-nil}
-use borrow.Author.Tests.{leb-true}
+use lib.Dec.{leb, eqb}
+use lib.ListN.{length, take, drop, getD, length-append}
+use lib.Seq.{slice, slice-empty, slice-cons, take-take, drop-drop, take-nil, take-append-seam, drop-append-seam}
+use borrow.Author.Tests.{leb-true, le-leb}
 use Rattle.wire.specs.Choice.{pick}
 use Rattle.wire.proofs.Choices.{both}
-use Rattle.sheet.specs.Sheets.{isGroup, has, isField, areFields, nowhere, find}
+use Rattle.sheet.specs.Sheets.{isGroup, has, isField, areFields, isList, isSheet, nowhere, part, find}
 
 -- ---- behind the bytes of a value
 
@@ -57,6 +57,36 @@ unfolding areFields
 fields-step g tags t n s =
     ap (λ (x : Bool). not (has tags t) && x)
     (and-same (isField g t n s) _ _ (λ h. skip-fields g (t ∷ tags) n s (field-ends g t n s h)))
+
+-- ---- a field with the tag u and the value v, written down before s
+
+module _ (u : ℕ) (v s : List ℕ) where
+  ends : length v ≤ length (v ++ s)
+  ends = omega (arith, length-append v s)
+
+  pub fields-of : (g : List ℕ → Bool) (tags : List ℕ) →
+      areFields g tags 0 (u ∷ length v ∷ (v ++ s)) ≡ (not (has tags u) && (pick (isGroup u) (g v) true && areFields g (u ∷ tags) 0 s))
+  unfolding isField
+  fields-of g tags =
+      fields-step g tags u (length v) (v ++ s) ∙ rw (le-leb (length v) (length (v ++ s)) ends, take-append-seam v s, drop-append-seam v s)
+
+  pub find-of : (t b : ℕ) → find t b 0 (u ∷ length v ∷ (v ++ s)) ≡ pick (eqb u t) (part (b + 2) v) (find t (b + 2 + length v) 0 s)
+  unfolding find
+  find-of t b =
+      rw (
+        le-leb (length v) (length (v ++ s)) ends,
+        take-append-seam v s,
+        skip-find t (b + 2) (length v) (v ++ s) ends,
+        drop-append-seam v s,
+      )
+
+-- ---- a sheet
+
+pub sheet-says : (s : List ℕ) → isSheet s ≡ true → (length s ≤ 4096) × (isList 5 s ≡ true)
+unfolding isSheet
+sheet-says s h =
+    let x = both (leb (length s) 4096) (isList 5 s) h in
+    (leb-true (length s) 4096 (x .0), x .1)
 
 -- ---- the bytes from p to e of a sheet s
 

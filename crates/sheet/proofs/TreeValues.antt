@@ -5,15 +5,14 @@ use mathlib.Core.List.{List, [], _∷_, _++_}
 use mathlib.Core.Path.{_≡_, refl, sym, ap, _∙_}
 use native.Mathlib.Omega.{arith}
 use lib.Dec.{leb, eqb}
-use lib.ListN.{length, length-append}
-use lib.Seq.{take-append-seam, drop-append-seam}
+use lib.ListN.{length}
 use borrow.Author.Tests.{le-leb, not-true, eqb-true}
 use Rattle.wire.specs.Choice.{pick}
 use Rattle.wire.proofs.Choices.{both}
 use Rattle.sheet.specs.Sheets.{isGroup, Part, nowhere, part, find, onward, lead, placeOf, throughGroups, isPath}
 use Rattle.sheet.specs.Trees.{Fields, none, leaf, group, written, isTree, Value, missing, value, leafValue, valueAt}
 use Rattle.sheet.specs.TreeLaws.{bytesOf, FindsValue, PathsReach, HandSetValueFirst}
-use Rattle.sheet.proofs.Steps.{skip-find}
+use Rattle.sheet.proofs.Steps.{find-of}
 use Rattle.sheet.proofs.Places.{found-inside}
 use Rattle.sheet.proofs.Picks.{hand-set-first}
 use Rattle.sheet.proofs.Trees.{leaf-asked, group-asked, no-tree, trees-are-sheets}
@@ -21,17 +20,11 @@ use Rattle.sheet.proofs.Trees.{leaf-asked, group-asked, no-tree, trees-
 -- ---- the field with tag u and the value v, and s behind it
 
 module _ (t b u : ℕ) (v s : List ℕ) where
-  find-of : find t b 0 (u ∷ length v ∷ (v ++ s)) ≡ pick (eqb u t) (part (b + 2) v) (find t (b + 2 + length v) 0 s)
-  unfolding find
-  find-of =
-      let l = le-leb (length v) (length (v ++ s)) (omega (arith, length-append v s)) in
-      rw (l, take-append-seam v s, skip-find t (b + 2) (length v) (v ++ s) (omega (arith, length-append v s)), drop-append-seam v s)
-
   -- the value of the path t ∷ ts is x in v, and y in s
   leads-of : (ts : List ℕ) (x y : Value) → (eqb u t ≡ true → bytesOf (lead ts (b + 2) v) ≡ x) →
       bytesOf (lead (t ∷ ts) (b + 2 + length v) s) ≡ y → bytesOf (lead (t ∷ ts) b (u ∷ length v ∷ (v ++ s))) ≡ pick (eqb u t) x y
   unfolding lead
-  leads-of ts x y here behind = rw find-of (go (eqb u t) refl)
+  leads-of ts x y here behind = rw (find-of u v s t b) (go (eqb u t) refl)
     where
       go : (e : Bool) → eqb u t ≡ e → bytesOf (onward (pick e (part (b + 2) v) (find t (b + 2 + length v) 0 s)) (lead ts)) ≡ pick e x y
       go true q = here q

@@ -3,17 +3,16 @@ use Prim.Native.Nat.{ℕ, zero, suc, _≤_}
 use mathlib.Core.Bool.{Bool, true, false, _&&_, not, false≢true}
 use mathlib.Core.List.{List, [], _∷_, _++_}
 use mathlib.Core.Path.{_≡_, refl, sym, ap, _∙_}
-use native.Mathlib.Omega.{arith}
-use lib.Dec.{leb, ltb}
-use lib.ListN.{length, take, drop, length-append, take-append-drop}
-use lib.Seq.{take-append-seam, drop-append-seam, length-take-le}
-use borrow.Author.Tests.{leb-true, le-leb, not-true}
+use lib.Dec.{ltb}
+use lib.ListN.{length, take, drop, take-append-drop}
+use lib.Seq.{take-append-seam, length-take-le}
+use borrow.Author.Tests.{le-leb, not-true}
 use Rattle.wire.specs.Choice.{pick}
 use Rattle.wire.proofs.Choices.{both}
 use Rattle.sheet.specs.Sheets.{isGroup, has, isField, areFields, isList, isSheet}
 use Rattle.sheet.specs.Trees.{Fields, none, leaf, group, written, areBytes, isTree, fieldsBehind, treeOf}
 use Rattle.sheet.specs.TreeLaws.{TreesAreSheets, SheetsAreTrees}
-use Rattle.sheet.proofs.Steps.{field-ends, field-inner, fields-step}
+use Rattle.sheet.proofs.Steps.{field-ends, field-inner, fields-of, sheet-says}
 
 -- ---- what is asked of a field and of those behind it
 
@@ -59,13 +58,6 @@ no-tree tags f h = false≢true h
 -- ---- the field with the value v, and s behind it
 
 module _ (t : ℕ) (v s : List ℕ) where
-  fields-of : (g : List ℕ → Bool) (tags : List ℕ) →
-      areFields g tags 0 (t ∷ length v ∷ (v ++ s)) ≡ (not (has tags t) && (pick (isGroup t) (g v) true && areFields g (t ∷ tags) 0 s))
-  unfolding isField
-  fields-of g tags =
-      fields-step g tags t (length v) (v ++ s)
-      ∙ rw (le-leb (length v) (length (v ++ s)) (omega (arith, length-append v s)), take-append-seam v s, drop-append-seam v s)
-
   behind-of : (r : List ℕ → Fields) →
       fieldsBehind r 0 (t ∷ length v ∷ (v ++ s)) ≡ pick (isGroup t) (group t (r v) (fieldsBehind r 0 s)) (leaf t v (fieldsBehind r 0 s))
   unfolding fieldsBehind
@@ -192,8 +184,7 @@ reads-list zero s h b = absurd (false≢true h)
 reads-list (suc d) s h b = reads-fields d (reads-list d) [] 0 s h b
 
 pub sheets-are-trees : SheetsAreTrees
-unfolding isSheet
 sheets-are-trees s b h =
-    let x = both (leb (length s) 4096) (isList 5 s) h in
+    let x = sheet-says s h in
     let r = reads-list 5 s (x .1) b in
-    record { short = leb-true (length s) 4096 (x .0); tree = r .0; back = r .1 }
+    record { short = x .0; tree = r .0; back = r .1 }
