@@ -13,28 +13,30 @@ use Rattle.wire.proofs.Choices.{passed-refused}
 use Rattle.refusal.specs.Numbers.{numberOf}
 use Rattle.refusal.specs.declared.Refusal.{Refusal}
 use Rattle.refusal.proofs.Positive.{number-positive}
-use Rattle.blocks.specs.Search.{Search, nowhere, foundAt}
+use Rattle.blocks.specs.Search.{Search, nowhere, foundAt, isFound}
 use Rattle.blocks.specs.Names.{Name, endless, name, nameIn, paddedName}
 use Rattle.blocks.specs.Tables.{entry, starts, blocksFor}
 use Rattle.blocks.specs.declared.Use.the-variants.{SentBinding}
 use Rattle.blocks.specs.declared.Entry.{Entry}
-use Rattle.endpoints.specs.Endpoints.{boundAt, waitingFor, clashes, clashesStored, endpointAt, bindingAt, someEndpoint, someBinding, endpointTest, bindingTest}
+use Rattle.endpoints.specs.Endpoints.{waitingFor, clashes, clashesStored, endpointAt, bindingAt, someEndpoint, someBinding, endpointTest, bindingTest}
 use Rattle.endpoints.specs.declared.Endpoint.{Endpoint}
 use Rattle.endpoints.specs.declared.Binding.{Binding}
 use Rattle.endpoints.specs.declared.EndpointTest.the-variants.{Clashes, WaitingFor}
 use Rattle.endpoints.specs.declared.BindingTest.{BindingTest}
 use Rattle.icbmsg.specs.Outcome.{Outcome, refused, check}
 use Rattle.icbmsg.specs.Ends.{isOpen}
-use Rattle.icbmsg.specs.Arrivals.{fitsArea, areFree, sizeAt, dataRule, releasedBoundOf, boundNamed, boundRule}
+use Rattle.icbmsg.specs.Arrivals.{fitsArea, areFree, sizeAt, receiver, delivered, dataRule, releasedBoundOf, boundNamed, boundRule}
 use Rattle.icbmsg.specs.Reading.{contentAt}
 use Rattle.icbmsg.specs.declared.Region.{Region}
 use Rattle.icbmsg.specs.End.{End}
-use Rattle.icbmsg.proofs.ArrivingBytes.{received, data-flat, withName, bound-flat}
+use Rattle.icbmsg.proofs.ArrivingBytes.{data-flat, withName, bound-flat}
 use Rattle.checks.specs.Measuring.{placeNumber, measuredNumber, MeasuredAs, areLent}
 use Rattle.checks.specs.Decisions.{DataAs, ReleaseAs, BindAs, BlocksOf, NamedAs}
 use Rattle.checks.specs.declared.Run.the-variants.{Live}
 use Rattle.checks.specs.declared.arrivals.Measured.{Measured}
 use Rattle.checks.specs.declared.arrivals.Measured.the-variants.{Fits}
+use Rattle.checks.specs.declared.arrivals.Delivery.{Delivery}
+use Rattle.checks.specs.declared.arrivals.Delivery.the-variants.{To}
 use Rattle.checks.specs.declared.arrivals.Binds.{Binds}
 use Rattle.checks.specs.declared.arrivals.Named.{Named}
 use Rattle.checks.specs.declared.arrivals.Binds.the-variants.{Waiting, Stored}
@@ -77,21 +79,25 @@ module _ (e : End) (a b : ℕ) (r : List ℕ) where
   data-14 h = data-flat e a b r ∙ rw (lt-leb a 0xFD h)
 
   module _ (h : a ≤ 0xFD) where
-    pub data-15 : someEndpoint (boundAt a) (e .endpoints) ≡ false → answer (dataRule e a b) r ≡ refused e 15
+    pub data-15 : receiver e a ≡ nowhere → answer (dataRule e a b) r ≡ refused e 15
     data-15 i = data-flat e a b r ∙ rw (le-leb a 0xFD h, i)
 
-    module _ (i : someEndpoint (boundAt a) (e .endpoints) ≡ true) (o : isOpen e ≡ true) (n : ℕ) (l : n ≡ e .rx .length) where
-      data-passed : answer (dataRule e a b) r ≡ passed (placeNumber n (e .rx) (e .held) b (sizeAt (e .rx) b r)) (received e a b (sizeAt (e .rx) b r)) (refused e)
+    module _ (p : ℕ) (i : receiver e a ≡ foundAt p) (o : isOpen e ≡ true) (n : ℕ) (l : n ≡ e .rx .length) (m : Measured)
+        (s : measuredNumber m ≡ placeNumber n (e .rx) (e .held) b (sizeAt (e .rx) b r)) where
+      data-passed : answer (dataRule e a b) r ≡ passed (placeNumber n (e .rx) (e .held) b (sizeAt (e .rx) b r)) (delivered e a b (sizeAt (e .rx) b r)) (refused e)
       data-passed =
           let k : ℕ = sizeAt (e .rx) b r in
-          data-flat e a b r ∙ rw (le-leb a 0xFD h, i, lent-whole e n o l) (three-checks (ltb b (e .rx .«block_count»)) (fitsArea (e .rx) b k) (areFree (e .held) (e .rx) b k) e (received e a b k))
+          data-flat e a b r ∙ rw (le-leb a 0xFD h, ap isFound i, lent-whole e n o l) (three-checks (ltb b (e .rx .«block_count»)) (fitsArea (e .rx) b k) (areFree (e .held) (e .rx) b k) e (delivered e a b k))
 
-      pub data-measured : (m : Measured) → measuredNumber m ≡ placeNumber n (e .rx) (e .held) b (sizeAt (e .rx) b r) → MeasuredAs m (e .rx) b (sizeAt (e .rx) b r) → DataAs m e a b r
-      data-measured (Measured.Refused x) p q = data-passed ∙ measured-refused (Measured.Refused x) _ p x _ e refl
-      data-measured (Fits k c) p q =
-          let s = open-says e o .rx in
-          let i = run-inside (e .alignment) (e .rx) b c s (q .3) in
-          (data-passed ∙ measured-fits (Fits k c) _ p k c _ e refl ∙ rw (q .0, q .1), q .2, omega (arith, q .3, s .few), omega (arith, i, q .0, q .4, s .bytes))
+      pub data-refused : (x : Refusal) → m ≡ Measured.Refused x → DataAs (Delivery.Refused x) e a b r
+      data-refused x q = data-passed ∙ measured-refused m _ s x _ e q
+
+      pub data-fits : (k c : ℕ) → m ≡ Fits k c → MeasuredAs m (e .rx) b (sizeAt (e .rx) b r) → p < 8 → DataAs (To p k c) e a b r
+      data-fits k c q t u =
+          let z = open-says e o .rx in
+          let f = measured-says m (e .rx) b (sizeAt (e .rx) b r) k c t q in
+          let y = run-inside (e .alignment) (e .rx) b c z (f .3) in
+          (data-passed ∙ measured-fits m _ s k c _ e q ∙ rw (i, f .0, f .1), f .2, omega (arith, f .3, z .few), omega (arith, y, f .0, f .4, z .bytes), u)
 
 -- ---- kind 3
 

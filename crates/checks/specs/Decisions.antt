@@ -20,7 +20,7 @@ use Rattle.endpoints.specs.declared.Binding.{Binding}
 use Rattle.endpoints.specs.declared.Stage.the-variants.{Bound}
 use Rattle.icbmsg.specs.Regions.{blockCount, blockSize}
 use Rattle.icbmsg.specs.Outcome.{nothing, control, delivery, Outcome, refused, accepted, written, check}
-use Rattle.icbmsg.specs.Ends.{whole, blockAt, foundOr, changed, withSent, withHeld}
+use Rattle.icbmsg.specs.Ends.{whole, blockAt, foundOr, changed, withSent}
 use Rattle.icbmsg.specs.Messages.{reserveOf, reservation, sendOf}
 use Rattle.icbmsg.specs.Arrivals.{dataRule, releasedBoundOf, boundNamed, boundRule}
 use Rattle.icbmsg.specs.Registering.{initiates, followed, registerOf}
@@ -33,7 +33,8 @@ use Rattle.checks.specs.declared.Run.the-variants.{Live}
 use Rattle.checks.specs.declared.Space.{Space}
 use Rattle.checks.specs.declared.Space.the-variants.{At}
 use Rattle.checks.specs.declared.Sending.{Sending}
-use Rattle.checks.specs.declared.arrivals.Measured.{Measured}
+use Rattle.checks.specs.declared.arrivals.Delivery.{Delivery}
+use Rattle.checks.specs.declared.arrivals.Delivery.the-variants.{To}
 use Rattle.checks.specs.declared.arrivals.Binds.{Binds}
 use Rattle.checks.specs.declared.arrivals.Binds.the-variants.{Waiting, Stored}
 use Rattle.checks.specs.declared.arrivals.Named.{Named}
@@ -72,14 +73,17 @@ SendAs (Sending.Fits b c m) e n s a k =
 abbrev pub Sends : Sending → Numbers → List ℕ → List Endpoint → ℕ → ℕ → ℕ → ℕ → Type 0
 Sends r n t ps l s a k = (bs : List Binding) → SendAs r (joined n t ps bs) l s a k
 
--- the receive bytes r
-abbrev pub DataAs : Measured → End → ℕ → ℕ → List ℕ → Type 0
-DataAs (Measured.Refused x) e a b r = answer (dataRule e a b) r ≡ refused e (numberOf x)
-DataAs (Measured.Fits k m) e a b r =
-    (answer (dataRule e a b) r ≡ accepted (withHeld e (taken (e .held) ReceivedData b m a k)) (delivery a b k))
-    × (1 ≤ m) × (b + m ≤ 256) × (k < 2 ^ 24)
+-- the receive bytes r: the endpoint at place p gets K bytes in m blocks, and is bound
+abbrev pub DataAs : Delivery → End → ℕ → ℕ → List ℕ → Type 0
+DataAs (Delivery.Refused x) e a b r = answer (dataRule e a b) r ≡ refused e (numberOf x)
+DataAs (To p k m) e a b r =
+    (answer (dataRule e a b) r
+    ≡ accepted
+    (changed e (e .write) (e .read) (e .sent) (taken (e .held) ReceivedData b m a k) (boundNow (e .endpoints) a (foundAt p)) (e .bindings))
+    (delivery a b k))
+    × (1 ≤ m) × (b + m ≤ 256) × (k < 2 ^ 24) × (p < 8)
 
-abbrev pub Delivers : Measured → Numbers → List ℕ → List Endpoint → ℕ → ℕ → List ℕ → Type 0
+abbrev pub Delivers : Delivery → Numbers → List ℕ → List Endpoint → ℕ → ℕ → List ℕ → Type 0
 Delivers m n t ps a b r = (bs : List Binding) → DataAs m (joined n t ps bs) a b r
 
 abbrev pub ReleaseAs : Run → End → ℕ → ℕ → Type 0

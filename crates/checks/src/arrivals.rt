@@ -17,7 +17,6 @@ use crate::MAX_BYTES;
 use crate::Run;
 use blocks::Found;
 use blocks::Use;
-use endpoints::Addressee;
 use endpoints::Binding;
 use endpoints::BindingTest;
 use endpoints::Endpoint;
@@ -36,6 +35,16 @@ const NAME_AND_ZERO: usize = endpoints::LONGEST_NAME + 1;
 pub enum Measured {
     Refused(Refusal),
     Fits { length: u32, count: usize },
+}
+
+// A data message that has arrived: the place of the endpoint that it reaches, its length and how many blocks it takes, or why it is refused.
+pub enum Delivery {
+    Refused(Refusal),
+    To {
+        place: usize,
+        length: u32,
+        count: usize,
+    },
 }
 
 // What becomes of an arriving binding: a waiting endpoint is bound, or it is stored, each at its place.
@@ -126,16 +135,23 @@ pub fn data_sent(
     rx: &[u8],
     address: u8,
     block: u8,
-) -> Measured
+) -> Delivery
     requires { ⌜ (openNumbers (n .alignment) (n .tx) (n .rx) (n .write) (n .read) ≡ true) × (length (now rx) ≡ n .rx .length) × (length (now t) ≡ 3136) ⌝ }
     ensures { λ r. ⌜ Delivers r n (now (t .entry)) endpoints address block (now (rx .entry)) ⌝ }
 {
     if LAST_ADDRESS < address {
-        return Measured::Refused(Refusal::BadAddress);
+        return Delivery::Refused(Refusal::BadAddress);
     }
-    match endpoints::find_addressee(endpoints, address as u32) {
-        Addressee::Nobody => Measured::Refused(Refusal::NotBound),
-        Addressee::Bound(_) => measure(rx, n.rx, t, block),
+    match endpoints::find_receiver(endpoints, n.initiator, address) {
+        Found::Nowhere => Delivery::Refused(Refusal::NotBound),
+        Found::At(place) => match measure(rx, n.rx, t, block) {
+            Measured::Refused(x) => Delivery::Refused(x),
+            Measured::Fits { length, count } => Delivery::To {
+                place,
+                length,
+                count,
+            },
+        },
     }
 }
 

@@ -63,10 +63,20 @@ pub fn open() -> Ends {
     Ends::new(from, to).start().turned().start().turned()
 }
 
-// The pump's end registers, and its binding arrives first: it is stored until the panel's end registers the same name.
+// The pump's end registers, and its binding arrives first: it is stored until the panel's end registers the same name. The panel pushes the
+// release of the binding late, behind its first message: that message binds the pump's endpoint too, and the release frees the block.
 pub fn bind(ends: Ends) -> Ends {
-    heading(b"2. Binding the endpoint calibration");
-    let ends = register(register(ends.turned()).turned());
+    heading(b"2. Binding the endpoint calibration: data comes before the release");
+    let announced = register(ends.turned()).carry();
+    show_binding(announced);
+    let registered = register(announced.turned());
+    let release = registered.answer;
+    show_endpoint(registered.to);
+    let ends = registered.send(5, b"ready").announce();
+    show_endpoint(ends.to);
+    show_binding(ends);
+    let ends = ends.finish().with(release).carry();
+    show_binding(ends);
     show_endpoint(ends.from);
     show_endpoint(ends.to);
     ends
@@ -79,13 +89,16 @@ fn show_endpoint(end: End) {
     texts::endpoint(line, endpoints[0]).print();
 }
 
-// One end registers, and what it answers goes to the other. A binding lies in a block of the initiator's region.
+// The direction in which a binding lies: its block is one of the initiator's.
+fn show_binding(ends: Ends) {
+    ends.from_initiator().show();
+}
+
+// One end registers.
 fn register(ends: Ends) -> Ends {
     let registered = ends.register(b"calibration");
-    registered.from_initiator().show();
-    let carried = registered.carry();
-    carried.from_initiator().show();
-    carried
+    show_binding(registered);
+    registered
 }
 
 // More is reserved than is sent: send frees the blocks beyond the need.

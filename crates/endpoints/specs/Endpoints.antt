@@ -55,6 +55,15 @@ named n p = same (p .name) (paddedName n)
 abbrev pub boundAt : ℕ → Endpoint → Bool
 boundAt a p = at isBound p && eqb (p .address) a
 
+-- an initiator's endpoint has its address from when it is registered on, a follower's from when it is bound
+abbrev pub hasAddress : Bool → Endpoint → Bool
+hasAddress true p = not (at isUnused p)
+hasAddress false p = at isBound p
+
+-- 15: whom an arriving data message of address a reaches
+abbrev pub receivesAt : Bool → ℕ → Endpoint → Bool
+receivesAt initiator a p = hasAddress initiator p && eqb (p .address) a
+
 abbrev pub registered : List ℕ → Endpoint → Bool
 registered n p = not (at isUnused p) && named n p
 
@@ -88,7 +97,7 @@ someEndpoint f ps = isFound (endpointAt f ps)
 abbrev pub someBinding : (Binding → Bool) → List Binding → Bool
 someBinding f bs = isFound (bindingAt f bs)
 
--- the waiting endpoint with the address is bound
+-- the endpoint that was found is bound to address a
 abbrev pub boundNow : List Endpoint → ℕ → Search → List Endpoint
 boundNow ps a nowhere = ps
 boundNow ps a (foundAt i) = set ps i (record { stage = Bound; address = a; name = (getD ps i noEndpoint) .name })
@@ -106,7 +115,7 @@ unusedFrom (suc f) a ps = pick (someEndpoint (uses a) ps) (unusedFrom f (suc a) 
 unfoldable pub goodName : ℕ → List ℕ → Bool
 goodName m n = leb 1 (length n) && leb (length n) m && not (any (λ b. eqb b 0) n)
 
--- what the code's question whom an address reaches answers
+-- what the code's question whom a send's address reaches answers
 abbrev pub IsAddressee : Addressee → ℕ → List Endpoint → Type 0
 IsAddressee Nobody a ps = someEndpoint (boundAt a) ps ≡ false
 IsAddressee (Addressee.Bound x) a ps = (x ≡ a) × (someEndpoint (boundAt a) ps ≡ true)

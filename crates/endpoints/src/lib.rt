@@ -1,7 +1,10 @@
 // Endpoints and stored bindings, by name and address: eight of each, searched from the lowest place.
 ghost use mathlib.Core.Path.{_≡_};
+ghost use Prim.Native.Nat.{_<_};
+ghost use lib.ListN.{getD};
+ghost use Rattle.blocks.specs.Search.{foundAt};
 ghost use Rattle.blocks.specs.Tables.{searchOf, FoundBelow};
-ghost use Rattle.endpoints.specs.Endpoints.{isUnused, isWaiting, isBound, endpointTest, bindingTest, waitingAt, boundNow, endpointsAfter, bindingsAfter, IsAddressee, endpointAt, bindingAt, someEndpoint, someBinding, unusedFrom, goodName};
+ghost use Rattle.endpoints.specs.Endpoints.{noEndpoint, isUnused, isWaiting, isBound, boundAt, endpointTest, bindingTest, waitingAt, receivesAt, boundNow, endpointsAfter, bindingsAfter, IsAddressee, endpointAt, bindingAt, someEndpoint, someBinding, unusedFrom, goodName};
 use blocks::Found;
 
 pub enum Stage {
@@ -56,7 +59,7 @@ pub struct BindingChange {
     pub binding: Binding,
 }
 
-// Whom an address reaches: its byte, where a bound endpoint has it.
+// Whom a send's address reaches: its byte, where a bound endpoint has it.
 pub enum Addressee {
     Nobody,
     Bound(u8),
@@ -224,29 +227,57 @@ pub fn unused_address(endpoints: [Endpoint; PLACES]) -> u8
     a
 }
 
+// The endpoint that an arriving data message of this address reaches: at an initiator one that waits too; at a follower that has no address.
+pub fn find_receiver(endpoints: [Endpoint; PLACES], initiator: bool, address: u8) -> Found
+    ensures { λ r. ⌜ (searchOf r ≡ endpointAt (receivesAt initiator address) endpoints) × FoundBelow r 1 8 ⌝ }
+{
+    let nameless = [0u8; 1];
+    if initiator {
+        return find(endpoints, EndpointTest::Uses, address as u32, &nameless);
+    }
+    find(endpoints, EndpointTest::BoundAt, address as u32, &nameless)
+}
+
+// Whether the endpoint at this place is bound to this address.
+pub fn is_bound_to(endpoints: [Endpoint; PLACES], place: usize, address: u8) -> bool
+    requires { ⌜ place < 8 ⌝ }
+    ensures { λ r. ⌜ r ≡ boundAt address (getD endpoints place noEndpoint) ⌝ }
+{
+    let p = endpoints[place];
+    let stage = p.stage;
+    is_bound(stage) & (p.address == address)
+}
+
+// What binding the endpoint at this place to this address changes.
+pub fn bind(endpoints: [Endpoint; PLACES], place: usize, address: u8) -> EndpointChange
+    requires { ⌜ place < 8 ⌝ }
+    ensures { λ r. ⌜ endpointsAfter r endpoints ≡ boundNow endpoints address (foundAt place) ⌝ }
+{
+    let p = endpoints[place];
+    let name = p.name;
+    EndpointChange {
+        place: Found::At(place),
+        endpoint: Endpoint {
+            stage: Stage::Bound,
+            address,
+            name,
+        },
+    }
+}
+
 // What binding the endpoint that waits at this address changes.
 pub fn bind_waiting(endpoints: [Endpoint; PLACES], address: u8) -> EndpointChange
     ensures { λ r. ⌜ endpointsAfter r endpoints ≡ boundNow endpoints address (endpointAt (waitingAt address) endpoints) ⌝ }
 {
     let nameless = [0u8; 1];
-    let place = find(
+    match find(
         endpoints,
         EndpointTest::WaitingAt,
         address as u32,
         &nameless,
-    );
-    match place {
+    ) {
         Found::Nowhere => SAME_ENDPOINTS,
-        Found::At(i) => {
-            let p = endpoints[i];
-            let name = p.name;
-            let endpoint = Endpoint {
-                stage: Stage::Bound,
-                address,
-                name,
-            };
-            EndpointChange { place, endpoint }
-        }
+        Found::At(place) => bind(endpoints, place, address),
     }
 }
 

@@ -7,15 +7,13 @@ use lib.Dec.{leb, ltb, eqb}
 use lib.ListN.{getD}
 use Rattle.wire.specs.Choice.{pick}
 use Rattle.wire.specs.Reads.{gives, answer}
-use Rattle.icbmsg.specs.Outcome.{delivery, Outcome, refused, accepted, Rule, check}
-use Rattle.blocks.specs.Tables.{blocksFor, taken}
-use Rattle.endpoints.specs.Endpoints.{someEndpoint, boundAt}
+use Rattle.icbmsg.specs.Outcome.{Outcome, refused, Rule, check}
+use Rattle.blocks.specs.Search.{isFound}
+use Rattle.blocks.specs.Tables.{blocksFor}
 use Rattle.blocks.specs.Names.{Name, endless, name, longer, nameIn}
-use Rattle.icbmsg.specs.Ends.{withHeld}
-use Rattle.icbmsg.specs.Arrivals.{boundRule, boundSized, boundNamed, upToZero, fitsArea, areFree, dataRule}
+use Rattle.icbmsg.specs.Arrivals.{boundRule, boundSized, boundNamed, upToZero, fitsArea, areFree, receiver, delivered, dataRule}
 use Rattle.icbmsg.specs.Reading.{sizeIn, contentAt}
 use Rattle.icbmsg.proofs.RulesRead.{answer-guard}
-use Rattle.blocks.specs.declared.Use.the-variants.{ReceivedData}
 use Rattle.icbmsg.specs.End.{End}
 
 answer-pick : (b : Bool) (t u : Rule) (r : List ℕ) → answer (pick b t u) r ≡ pick b (answer t r) (answer u r)
@@ -23,16 +21,13 @@ answer-pick true t u r = refl
 answer-pick false t u r = refl
 
 -- kind 0
-abbrev pub received : End → ℕ → ℕ → ℕ → Outcome
-received e a b k = accepted (withHeld e (taken (e .held) ReceivedData b (blocksFor (e .rx .«block_size») k) a k)) (delivery a b k)
-
 pub data-flat : (e : End) (a b : ℕ) (r : List ℕ) → answer (dataRule e a b) r ≡
     check (leb a 0xFD) 14 e
-    (check (someEndpoint (boundAt a) (e .endpoints)) 15 e
+    (check (isFound (receiver e a)) 15 e
     (check (ltb b (e .rx .«block_count»)) 16 e
     (check (fitsArea (e .rx) b (sizeIn e b r)) 17 e
     (check (areFree (e .held) (e .rx) b (sizeIn e b r)) 18 e
-    (received e a b (sizeIn e b r))))))
+    (delivered e a b (sizeIn e b r))))))
 unfolding dataRule
 data-flat e a b r = simp answer-guard
 

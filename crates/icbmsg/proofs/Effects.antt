@@ -18,14 +18,14 @@ use Rattle.icmsg.specs.Laws.{PlainAt}
 use Rattle.icmsg.specs.declared.Ring.{Ring}
 use Rattle.icmsg.proofs.Indexes.{indexes-in-rule, refusals, pull-refused}
 use Rattle.icbmsg.specs.Outcome.{Given, nothing, Outcome, refusedWith, ringRefused, droppedTo, refused, placed, withoutPlace, check, guard}
-use Rattle.blocks.specs.Search.{Search, nowhere, foundAt}
+use Rattle.blocks.specs.Search.{Search, nowhere, foundAt, isFound}
 use Rattle.blocks.specs.Tables.{entry, lies, starts, startsData, allFree, freed, taken, runEntry, blocksFor, freeRun}
 use Rattle.icbmsg.specs.Ends.{blockAt, soundEnd, isOpen, changed, withWrite, withRead, foundOr, whole}
 use Rattle.endpoints.specs.Endpoints.{endpointAt, bindingAt, someEndpoint, someBinding, noBinding, at, isUnused, boundAt, registered, waitingFor, holds, clashes, clashesStored, unusedFrom, goodName, waitingAt, boundNow}
 use Rattle.icbmsg.specs.Rings.{ringOf, pushOutcome, pullOutcome, pushOf, startOf, pullRule}
 use Rattle.icbmsg.specs.Messages.{reserveOf, roomOf, sendOf, dropOf, viewOf, doneOf, roomQuestion, viewQuestion}
 use Rattle.icbmsg.specs.Registering.{become, followed, initiates, registerOf}
-use Rattle.icbmsg.specs.Arrivals.{decode, fitsArea, areFree, releaseOf, releasedBoundOf, boundTo, boundNamed, boundRule, decodedRule, arrivalRule, dataRule}
+use Rattle.icbmsg.specs.Arrivals.{decode, fitsArea, areFree, receiver, releaseOf, releasedBoundOf, boundTo, boundNamed, boundRule, decodedRule, arrivalRule, dataRule}
 use Rattle.icbmsg.specs.declared.Control.{Control}
 use Rattle.icbmsg.specs.declared.Control.the-variants.{TooShort, UnknownKind, DataSent, DataReleased, BindingSent, BindingReleased}
 use Rattle.icbmsg.specs.Calls.{Call, start, push, pull, reserve, room, send, drop, arrival, view, done, register, askRoom, askView, rule, lent, step}
@@ -287,6 +287,10 @@ fit-run g b k p h f =
     let l = ltb-true b (g .«block_count») h in
     omega (arith, blocks-least (g .«block_size») k (g .«block_count» - b) (leb-true (k + 4) ((g .«block_count» - b) * g .«block_size») f) p)
 
+boundNow-length : (ps : List Endpoint) (a : ℕ) (q : Search) → length (boundNow ps a q) ≡ length ps
+boundNow-length ps a nowhere = refl
+boundNow-length ps a (foundAt i) = length-set ps i _
+
 data-effect : (e : End) (a b : ℕ) (r : List ℕ) → isOpen e ≡ true → Effect (deliveryChange (e .rx .«block_size»)) e no-part (answer (dataRule e a b) r)
 data-effect e a b r o =
     let k : ℕ = sizeIn e b r in
@@ -294,14 +298,16 @@ data-effect e a b r o =
     let p = size-pos e o .1 in
     rw (data-flat e a b r)
     (checked (leb a 0xFD) _ (refl, refl) λ _.
-    checked (someEndpoint (boundAt a) (e .endpoints)) _ (refl, refl) λ _.
+    checked (isFound (receiver e a)) _ (refl, refl) λ _.
     checked (ltb b (g .«block_count»)) _ (refl, refl) λ h.
     checked (fitsArea (e .rx) b k) _ (refl, refl) λ f.
     checked (areFree (e .held) (e .rx) b k) _ (refl, refl) λ u.
     let m = fit-run g b k p h f in
     let x = blocks-hold (g .«block_size») k p in
     accepts refl o (refl, refl)
-    (keeps (e .endpoints) (receives b (blocksFor (g .«block_size») k) a k (le-leb (k + 4) (blocksFor (g .«block_size») k * g .«block_size») x) u (blocks-one (g .«block_size») k p) m) refl))
+    (keeps (boundNow (e .endpoints) a (receiver e a))
+    (receives b (blocksFor (g .«block_size») k) a k (le-leb (k + 4) (blocksFor (g .«block_size») k * g .«block_size») x) u (blocks-one (g .«block_size») k p) m)
+    (boundNow-length (e .endpoints) a (receiver e a))))
 
 release-effect : (e : End) (b : ℕ) → isOpen e ≡ true → Effect (λ _. frees transmit b) e no-part (releaseOf e b)
 unfolding releaseOf
@@ -309,10 +315,6 @@ release-effect e b o =
     checked (ltb b (e .tx .«block_count»)) _ (refl, refl) λ _.
     checked (starts SentData (e .tx .«block_count») (e .sent) b) _ (refl, refl) λ h.
     accepts refl o (refl, refl) (sends (e .endpoints) (run-freed b (live (run-of SentData (e .tx .«block_count») (e .sent) b h) refl)) refl)
-
-boundNow-length : (ps : List Endpoint) (a : ℕ) (q : Search) → length (boundNow ps a q) ≡ length ps
-boundNow-length ps a nowhere = refl
-boundNow-length ps a (foundAt i) = length-set ps i _
 
 bindingReleased-effect : (e : End) (a b : ℕ) → isOpen e ≡ true → Effect (λ _. frees transmit b) e no-part (releasedBoundOf e a b)
 unfolding releasedBoundOf

@@ -1,4 +1,5 @@
 pub mod RulesRead
+pub mod Claims
 pub mod ArrivingBytes
 pub mod Effects
 pub mod Separate
@@ -11,7 +12,9 @@ pub mod NothingAdded
 pub mod NoRoom
 pub mod Ledger
 pub mod Addresses
+pub mod Once
 pub mod Names
+pub mod Completion
 pub mod Writes
 pub mod NewerPartner
 pub mod NewerPartnerExample

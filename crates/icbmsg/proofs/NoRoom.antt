@@ -21,6 +21,7 @@ use Rattle.icbmsg.specs.Registering.{announcement, followed, initiates, 
 use Rattle.icbmsg.specs.Calls.{reserve, register, rule, lent, step}
 use Rattle.icbmsg.specs.Theorems.{FreeRun, Crowded, Reserves, too-long, no-room, at-lowest, Registers, NeedLeast, ReserveSays, NoRoom}
 use Rattle.icbmsg.specs.End.{End}
+use Rattle.icbmsg.proofs.Claims.{Claim, past, past-found}
 use Rattle.icbmsg.proofs.Effects.{sound, whole-open}
 
 -- LEAST. The need is the least number of blocks that hold K + 4 bytes.
@@ -86,43 +87,35 @@ module _ {e : End} {k : ℕ} {f : ℕ → Outcome} (z : (s : ℕ) → f s .numbe
   crowded-is (at-lowest s l r m) c = absurd (c .no-run s r)
 
 -- an outcome whose number is 24 tells A: only past the checks before it
-record Tells (A : Type 0) (o : Outcome) : Type 0 where
-  at-24 : o .number ≡ 24 → A
+abbrev Tells : Type 0 → Outcome → Type 0
+Tells A o = o .number ≡ 24 → A
 
-past : {A : Type 0} {o : Outcome} (e : End) (b : Bool) (n : ℕ) → (n ≡ 24 → ⊥) → (b ≡ true → Tells A o) → Tells A (check b n e o)
-past e true n d k = k refl
-past e false n d k = record { at-24 = λ h. absurd (d h) }
+follower-not : {A : Type 0} (e : End) (n : List ℕ) (i : ℕ) (q : Search) → Claim (Tells A) (followed e n i q)
+follower-not e n i nowhere = record { holds = λ h. absurd (omega arith) }
+follower-not e n i (foundAt j) = record { holds = λ h. absurd (omega arith) }
 
-past-found : {A : Type 0} {o : ℕ → Outcome} (e : End) (q : Search) (n : ℕ) → (n ≡ 24 → ⊥) → ((i : ℕ) → q ≡ foundAt i → Tells A (o i)) → Tells A (foundOr n e o q)
-past-found e nowhere n d k = record { at-24 = λ h. absurd (d h) }
-past-found e (foundAt i) n d k = k i refl
-
-follower-not : {A : Type 0} (e : End) (n : List ℕ) (i : ℕ) (q : Search) → Tells A (followed e n i q)
-follower-not e n i nowhere = record { at-24 = λ h. absurd (omega arith) }
-follower-not e n i (foundAt j) = record { at-24 = λ h. absurd (omega arith) }
-
-reserve-24 : (e : End) (k : ℕ) → Tells ((isOpen e ≡ true) × Crowded e k) (step e (reserve k))
+reserve-24 : (e : End) (k : ℕ) → Claim (Tells ((isOpen e ≡ true) × Crowded e k)) (step e (reserve k))
 unfolding step rule lent reserveOf
-reserve-24 e k = past e (isOpen e) 6 (λ d. omega arith) λ o. record { at-24 = λ h. (o, is-crowded (λ s. refl) (reserves e k o (reservation e k)) h) }
+reserve-24 e k = past e (isOpen e) 6 (λ d. absurd (omega arith)) λ o. record { holds = λ h. (o, is-crowded (λ s. refl) (reserves e k o (reservation e k)) h) }
 
-register-24 : (e : End) (tx n : List ℕ) → Tells ((i : ℕ) × Registers e tx n i × Crowded e (length n + 1)) (step e (register tx n))
+register-24 : (e : End) (tx n : List ℕ) → Claim (Tells ((i : ℕ) × Registers e tx n i × Crowded e (length n + 1))) (step e (register tx n))
 unfolding step rule lent registerOf initiates
 register-24 e tx n =
-    past e (whole e (e .tx) (length tx)) 6 (λ d. omega arith) λ w.
-    past e (goodName 31 n) 20 (λ d. omega arith) λ g.
-    past e (not (someEndpoint (registered n) (e .endpoints))) 21 (λ d. omega arith) λ u.
-    past-found e (endpointAt (at isUnused) (e .endpoints)) 22 (λ d. omega arith) λ i p.
+    past e (whole e (e .tx) (length tx)) 6 (λ d. absurd (omega arith)) λ w.
+    past e (goodName 31 n) 20 (λ d. absurd (omega arith)) λ g.
+    past e (not (someEndpoint (registered n) (e .endpoints))) 21 (λ d. absurd (omega arith)) λ u.
+    past-found e (endpointAt (at isUnused) (e .endpoints)) 22 (λ d. absurd (omega arith)) λ i p.
     go (e .initiator) i refl (λ l. record { lent = w; name = g; unregistered = not-true _ u; place = p; initiator = l }) (whole-open e (e .tx) (length tx) w)
   where
     go : (r : Bool) (i : ℕ) → e .initiator ≡ r → (e .initiator ≡ true → Registers e tx n i) → isOpen e ≡ true →
-        Tells ((i : ℕ) × Registers e tx n i × Crowded e (length n + 1))
+        Claim (Tells ((i : ℕ) × Registers e tx n i × Crowded e (length n + 1)))
         (pick r (reserving e (length n + 1) (announcement e n i (unusedFrom 8 0 (e .endpoints)))) (followed e n i (bindingAt (holds (e .rx .«block_count») n) (e .bindings))))
-    go true i r k o = record { at-24 = λ h. (i, k r, is-crowded (λ s. refl) (reserves e (length n + 1) o (announcement e n i (unusedFrom 8 0 (e .endpoints)))) h) }
+    go true i r k o = record { holds = λ h. (i, k r, is-crowded (λ s. refl) (reserves e (length n + 1) o (announcement e n i (unusedFrom 8 0 (e .endpoints)))) h) }
     go false i r k o = follower-not e n i (bindingAt (holds (e .rx .«block_count») n) (e .bindings))
 
 pub no-room-exactly : NoRoom
 no-room-exactly =
     record {
-      reserve = λ e k. (reserve-24 e k .at-24, λ h. crowded-is (λ s. refl) (reserve-says .reserve e k (h .0)) (h .1));
-      register = λ e tx n. (register-24 e tx n .at-24, λ h. crowded-is (λ s. refl) (reserve-says .register e tx n (h .0) (h .1)) (h .2));
+      reserve = λ e k. (reserve-24 e k .holds, λ h. crowded-is (λ s. refl) (reserve-says .reserve e k (h .0)) (h .1));
+      register = λ e tx n. (register-24 e tx n .holds, λ h. crowded-is (λ s. refl) (reserve-says .register e tx n (h .0) (h .1)) (h .2));
     }

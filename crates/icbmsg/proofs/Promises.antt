@@ -17,6 +17,7 @@ use Rattle.icbmsg.proofs.Ledger.{by-history}
 use Rattle.icbmsg.proofs.NothingAdded.{nothing-added}
 use Rattle.icbmsg.proofs.NoRoom.{need-least, reserve-says, no-room-exactly}
 use Rattle.icbmsg.proofs.Names.{names-kept}
+use Rattle.icbmsg.proofs.Completion.{binding-completes, data-reaches}
 use Rattle.icbmsg.proofs.Addresses.{address-lowest}
 use Rattle.icbmsg.proofs.NewerPartner.{newer-partner}
 use Rattle.icbmsg.proofs.NewerPartnerExample.{changes-can-come}
@@ -53,6 +54,8 @@ promises =
       no-room = no-room-exactly;
       names-kept = names-kept;
       address-lowest = address-lowest;
+      binding-completes = binding-completes;
+      data-reaches = data-reaches;
       pull-reads = pull-reads-what-is-listed;
       rules-read = rules-read;
       newer-partner = newer-partner;

@@ -12,13 +12,13 @@ use Rattle.icmsg.specs.Reading.{past, pullReads, isOneOf}
 use Rattle.icmsg.specs.declared.Ring.{Ring}
 use Rattle.icmsg.proofs.PullReads.{pull-reads-what-is-listed}
 use Rattle.icbmsg.specs.Outcome.{Outcome, ringRefused, Rule, check, guard}
-use Rattle.blocks.specs.Search.{Search, nowhere, foundAt}
+use Rattle.blocks.specs.Search.{Search, nowhere, foundAt, isFound}
 use Rattle.blocks.specs.Tables.{blocksFor}
-use Rattle.endpoints.specs.Endpoints.{endpointAt, bindingAt, someEndpoint, someBinding, clashes, clashesStored, waitingFor, boundAt}
+use Rattle.endpoints.specs.Endpoints.{endpointAt, bindingAt, someEndpoint, someBinding, clashes, clashesStored, waitingFor}
 use Rattle.blocks.specs.Names.{paddedName}
 use Rattle.icbmsg.specs.Ends.{whole, foundOr}
 use Rattle.icbmsg.specs.Rings.{ringOf, pullOutcome, pulled, pullRule}
-use Rattle.icbmsg.specs.Arrivals.{decode, headerAt, decodedRule, arrivalRule, boundRule, boundSized, boundNamed, upToZero, fitsArea, areFree, boundTo, bindingStored, dataRule}
+use Rattle.icbmsg.specs.Arrivals.{decode, headerAt, decodedRule, arrivalRule, boundRule, boundSized, boundNamed, upToZero, fitsArea, areFree, receiver, boundTo, bindingStored, dataRule}
 use Rattle.icbmsg.specs.declared.Control.{Control}
 use Rattle.icbmsg.specs.declared.Control.the-variants.{TooShort, UnknownKind, DataSent, DataReleased, BindingSent, BindingReleased}
 use Rattle.icbmsg.specs.Calls.{start, push, pull, reserve, room, send, drop, arrival, view, done, register, askRoom, askView, rule, lent, step}
@@ -86,7 +86,7 @@ data-asks : (e : End) (a b : ℕ) (r : List ℕ) → positionsRead (dataRule e a
 unfolding dataRule
 data-asks e a b r =
     (simp (positionsRead-guard, pick-nil))
-    ∙ data-cases (leb a 0xFD) (someEndpoint (boundAt a) (e .endpoints)) (ltb b (e .rx .«block_count»)) (fitsArea (e .rx) b (sizeIn e b r)) (areFree (e .held) (e .rx) b (sizeIn e b r)) (headerAt (e .rx) b)
+    ∙ data-cases (leb a 0xFD) (isFound (receiver e a)) (ltb b (e .rx .«block_count»)) (fitsArea (e .rx) b (sizeIn e b r)) (areFree (e .held) (e .rx) b (sizeIn e b r)) (headerAt (e .rx) b)
     (answer (dataRule e a b) r .number) (simp (number-guard, answer-readEach))
 
 -- kind 2: its last numbers are none of the checks before the name

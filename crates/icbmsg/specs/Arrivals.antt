@@ -10,10 +10,10 @@ use Rattle.wire.specs.Reads.{gives, reads, readEach}
 use Rattle.blocks.specs.declared.Entry.{Entry}
 use Rattle.icbmsg.specs.Regions.{blockCount, blockSize}
 use Rattle.icbmsg.specs.Outcome.{nothing, control, delivery, Outcome, refused, accepted, Rule, check, guard}
-use Rattle.blocks.specs.Search.{Search, nowhere, foundAt}
+use Rattle.blocks.specs.Search.{Search, nowhere, foundAt, isFound}
 use Rattle.blocks.specs.Tables.{entry, starts, allFree, freed, taken, blocksFor}
-use Rattle.icbmsg.specs.Ends.{blockAt, whole, foundOr, changed, withSent, withHeld}
-use Rattle.endpoints.specs.Endpoints.{boundAt, waitingFor, waitingAt, boundNow, clashes, clashesStored, endpointAt, bindingAt, someEndpoint, someBinding}
+use Rattle.icbmsg.specs.Ends.{blockAt, whole, foundOr, changed, withSent}
+use Rattle.endpoints.specs.Endpoints.{receivesAt, waitingFor, waitingAt, boundNow, clashes, clashesStored, endpointAt, bindingAt, someEndpoint, someBinding}
 use Rattle.blocks.specs.Names.{paddedName}
 use Rattle.icbmsg.specs.Registering.{become}
 use Rattle.blocks.specs.declared.Use.the-variants.{SentData, SentBinding, ReceivedData, StoredBinding}
@@ -47,16 +47,27 @@ fitsArea g b k = leb (k + 4) ((blockCount g - b) * blockSize g)
 abbrev pub areFree : List Entry → Region → ℕ → ℕ → Bool
 areFree t g b k = allFree t b (blocksFor (blockSize g) k)
 
--- A2, kind 0, checks 14, 15, 16, 17, 18: its run is taken, with address and K. A7: its size is read here and never again
+-- the endpoint that a data message of address a reaches
+abbrev pub receiver : End → ℕ → Search
+receiver e a = endpointAt (receivesAt (e .initiator) a) (e .endpoints)
+
+-- A2: its run is taken, with address and K. E4: the endpoint that it reaches is bound, also if it was waiting
+abbrev pub delivered : End → ℕ → ℕ → ℕ → Outcome
+delivered e a b k =
+    accepted
+    (changed e (e .write) (e .read) (e .sent) (taken (e .held) ReceivedData b (blocksFor (blockSize (e .rx)) k) a k)
+    (boundNow (e .endpoints) a (receiver e a)) (e .bindings))
+    (delivery a b k)
+
+-- A2, kind 0, checks 14, 15, 16, 17, 18. A7: its size is read here and never again
 unfoldable pub dataRule : End → ℕ → ℕ → Rule
 dataRule e a b =
     guard (leb a 0xFD) 14 e
-    (guard (someEndpoint (boundAt a) (e .endpoints)) 15 e
+    (guard (isFound (receiver e a)) 15 e
     (guard (ltb b (blockCount (e .rx))) 16 e
-    (readEach (headerAt (e .rx) b) (λ h. let k : ℕ = fromLittleEndian h in
-    guard (fitsArea (e .rx) b k) 17 e
+    (readEach (headerAt (e .rx) b) (λ h. let k : ℕ = fromLittleEndian h in guard (fitsArea (e .rx) b k) 17 e
     (guard (areFree (e .held) (e .rx) b k) 18 e
-    (gives (accepted (withHeld e (taken (e .held) ReceivedData b (blocksFor (blockSize (e .rx)) k) a k)) (delivery a b k))))))))
+    (gives (delivered e a b k)))))))
 
 -- A3, kind 1, checks 16, 25: sent data is freed. B7: by the count in its entry
 unfoldable pub releaseOf : End → ℕ → Outcome
@@ -65,7 +76,7 @@ releaseOf e b =
     (check (starts SentData (blockCount (e .tx)) (e .sent) b) 25 e
     (accepted (withSent e (freed (e .sent) b (entry (e .sent) b .count))) nothing))
 
--- A5, kind 3, checks 14, 16, 25: the sent binding is freed, and the endpoint that waits at its address is bound
+-- A5, kind 3, checks 14, 16, 25: the sent binding is freed, and the endpoint that waits at its address is bound; none does where data came first
 unfoldable pub releasedBoundOf : End → ℕ → ℕ → Outcome
 releasedBoundOf e a b =
     check (leb a 0xFD) 14 e

@@ -14,6 +14,7 @@ pub mod WellFormed
 pub mod Theorems
 pub mod Places
 pub mod Names
+pub mod Completion
 pub mod NewerPartner
 pub mod BenchCases
 pub mod NewerPartnerExample

@@ -8,6 +8,7 @@ use Rattle.icbmsg.specs.Ledger.{ByHistory}
 use Rattle.icbmsg.specs.Theorems.{Refusals, NumbersStay, OpenStays, ClosedSix, OpenExactly, Separated, RunsDisjoint, BlocksCovered, RunsStay, SendTrims, NothingAdded, AddressLowest, NeedLeast, ReserveSays, NoRoom}
 use Rattle.icbmsg.specs.Places.{PartsInside, PartsApart, WritesInside}
 use Rattle.icbmsg.specs.Names.{NamesKept}
+use Rattle.icbmsg.specs.Completion.{BindingCompletes, DataReaches}
 use Rattle.icbmsg.specs.NewerPartner.{NewerPartner}
 use Rattle.icbmsg.specs.NewerPartnerExample.{ChangesCanCome}
 use Rattle.icbmsg.specs.BenchCases.{StarredCases}
@@ -43,6 +44,8 @@ pub record Promises : Type 0 where
   pub no-room : NoRoom
   pub names-kept : NamesKept
   pub address-lowest : AddressLowest
+  pub binding-completes : BindingCompletes
+  pub data-reaches : DataReaches
   -- D3
   pub pull-reads : PullReads
   pub rules-read : RulesRead

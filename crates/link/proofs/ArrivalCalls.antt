@@ -9,6 +9,7 @@ use lib.ListN.{length, set}
 use Rattle.wire.specs.Reads.{answer}
 use Rattle.refusal.specs.Numbers.{numberOf}
 use Rattle.refusal.specs.declared.Refusal.{Refusal}
+use Rattle.blocks.specs.Search.{foundAt}
 use Rattle.blocks.specs.Tables.{entry, starts, freed, taken}
 use Rattle.blocks.specs.declared.Use.{Use}
 use Rattle.blocks.specs.declared.Use.the-variants.{SentData, SentBinding, ReceivedData, StoredBinding}
@@ -28,7 +29,7 @@ use Rattle.icbmsg.specs.End.{End}
 use Rattle.checks.specs.Parts.{joined}
 use Rattle.checks.specs.Decisions.{DataAs, ReleaseAs, NamedAs}
 use Rattle.checks.specs.declared.Run.{Run}
-use Rattle.checks.specs.declared.arrivals.Measured.{Measured}
+use Rattle.checks.specs.declared.arrivals.Delivery.{Delivery}
 use Rattle.checks.specs.declared.arrivals.Binds.{Binds}
 use Rattle.checks.specs.declared.arrivals.Named.{Named}
 use Rattle.checks.proofs.OpenSays.{is-open, open-says}
@@ -36,7 +37,7 @@ use Rattle.link.specs.Answers.{answered, calledOf}
 use Rattle.link.specs.Parts.{SaysOnly}
 use Rattle.link.specs.declared.Answer.{Answer}
 use Rattle.link.specs.declared.Called.{Called}
-use Rattle.link.proofs.MessageCalls.{joined-sent, joined-held}
+use Rattle.link.proofs.MessageCalls.{joined-sent}
 
 -- an answer that changes no endpoint and no binding
 pub called-only : (r : Called) (a : Answer) (n : Numbers) (t : List ℕ) (ps : List Endpoint) (bs : List Binding) → SaysOnly r a → calledOf r n t ps bs ≡ answered a (joined n t ps bs)
@@ -51,18 +52,18 @@ sent-ends n t u s z h k q =
 
 -- ---- kind 0
 
-module _ (n : Numbers) (t : List ℕ) (ps : List Endpoint) (a b : ℕ) (r : List ℕ) (m : Measured) (bs : List Binding) (h : DataAs m (joined n t ps bs) a b r) where
-  pub data-refused : (x : Refusal) → m ≡ Measured.Refused x → refused (joined n t ps bs) (numberOf x) ≡ answer (dataRule (joined n t ps bs) a b) r
+module _ (n : Numbers) (t : List ℕ) (ps : List Endpoint) (a b : ℕ) (r : List ℕ) (m : Delivery) (bs : List Binding) (h : DataAs m (joined n t ps bs) a b r) where
+  pub data-refused : (x : Refusal) → m ≡ Delivery.Refused x → refused (joined n t ps bs) (numberOf x) ≡ answer (dataRule (joined n t ps bs) a b) r
   data-refused x q = let w = rw q at h in sym w
 
-  module _ (k c : ℕ) (q : m ≡ Measured.Fits k c) where
-    pub data-fits : (1 ≤ c) × (b + c ≤ 256) × (k < 2 ^ 24)
-    data-fits = let w = rw q at h in (w .1, w .2, w .3)
+  module _ (p k c : ℕ) (q : m ≡ Delivery.To p k c) where
+    pub data-fits : (1 ≤ c) × (b + c ≤ 256) × (k < 2 ^ 24) × (p < 8)
+    data-fits = let w = rw q at h in (w .1, w .2, w .3, w .4)
 
-    pub data-taken : (t′ : List ℕ) → Changed t t′ 1568 (taken (tableOf t 1568) ReceivedData b c a k) → accepted (joined n t′ ps bs) (delivery a b k) ≡ answer (dataRule (joined n t ps bs) a b) r
-    data-taken t′ z =
-        let w = rw q at h in
-        ap (λ (e : End). accepted e (delivery a b k)) (joined-held n t t′ (taken (tableOf t 1568) ReceivedData b c a k) ps bs z) ∙ sym (w .0)
+    pub data-taken : (t′ : List ℕ) (ps′ : List Endpoint) → Changed t t′ 1568 (taken (tableOf t 1568) ReceivedData b c a k) → ps′ ≡ boundNow ps a (foundAt p) →
+        accepted (joined n t′ ps′ bs) (delivery a b k) ≡ answer (dataRule (joined n t ps bs) a b) r
+    unfolding changed
+    data-taken t′ ps′ z y = let w = rw q at h in sym (w .0 ∙ rw (z .table, z .lower 0 (omega arith), y))
 
 -- ---- kind 1
 

@@ -9,8 +9,7 @@ use Rattle.endpoints.specs.Endpoints.{endpointsAfter, bindingsAfter, holds, bin
 use Rattle.endpoints.specs.declared.Endpoint.{Endpoint}
 use Rattle.endpoints.specs.declared.Binding.{Binding}
 use Rattle.icbmsg.specs.Regions.{blockCount}
-use Rattle.icbmsg.specs.Outcome.{Outcome, withoutWrites}
-use Rattle.icbmsg.specs.Arrivals.{releasedBoundOf}
+use Rattle.icbmsg.specs.Outcome.{Outcome}
 use Rattle.icbmsg.specs.Registering.{initiates, followed}
 use Rattle.icbmsg.specs.End.{End}
 use Rattle.icbmsg.specs.declared.Numbers.{Numbers}
@@ -59,14 +58,11 @@ pub record SaysOnly (r : Called) (a : Answer) : Type 0 where
   pub endpoints : (ps : List Endpoint) → endpointsAfter (r .endpoint) ps ≡ ps
   pub bindings : (bs : List Binding) → bindingsAfter (r .binding) bs ≡ bs
 
--- kind 3, given the endpoints
-abbrev pub Unbinds : Called → Numbers → List ℕ → List Endpoint → ℕ → ℕ → List ℕ → Type 0
-Unbinds r n t ps a b t′ = (bs : List Binding) → calledOf r n t′ ps bs ≡ releasedBoundOf (joined n t ps bs) a b
+-- the rule f, given the endpoints, one of which may change
+abbrev pub ChangesEndpoints : (End → Outcome) → Numbers → List ℕ → List Endpoint → Called → List ℕ → Type 0
+ChangesEndpoints f n t ps r t′ = (bs : List Binding) → calledOf r n t′ ps bs ≡ f (joined n t ps bs)
 
--- the initiator's part of a registration, and the follower's
-abbrev pub Initiates : Called → Numbers → List ℕ → List Endpoint → List ℕ → ℕ → List ℕ → Type 0
-Initiates r n t ps name i t′ = (bs : List Binding) → calledOf r n t′ ps bs ≡ withoutWrites (initiates (joined n t ps bs) name i)
-
+-- what the initiator's part of a registration writes, and the follower's part
 abbrev pub InitiatesTx : Numbers → List ℕ → List Endpoint → List ℕ → ℕ → List ℕ → List ℕ → Type 0
 InitiatesTx n t ps name i s s′ = (bs : List Binding) → s′ ≡ wrote s (initiates (joined n t ps bs) name i .tx)
 

@@ -5,9 +5,9 @@ ghost use lib.ListN.{length};
 ghost use Rattle.wire.specs.Reads.{answer as answerTo};
 ghost use Rattle.checks.specs.Parts.{joined};
 ghost use Rattle.link.specs.Answers.{calledOf};
-ghost use Rattle.link.specs.Parts.{OnTables, OnEndpoints, Unbinds, SaysOnly};
+ghost use Rattle.link.specs.Parts.{OnTables, ChangesEndpoints, SaysOnly};
 ghost use Rattle.icbmsg.specs.Ends.{openNumbers};
-ghost use Rattle.icbmsg.specs.Arrivals.{dataRule, releaseOf, boundRule, arrivalRule};
+ghost use Rattle.icbmsg.specs.Arrivals.{dataRule, releaseOf, releasedBoundOf, boundRule, arrivalRule};
 use crate::Answer;
 use crate::Called;
 use crate::End;
@@ -15,7 +15,7 @@ use blocks::Found;
 use blocks::Use;
 use checks::Run;
 use checks::arrivals::Binds;
-use checks::arrivals::Measured;
+use checks::arrivals::Delivery;
 use endpoints::Binding;
 use endpoints::BindingChange;
 use endpoints::Endpoint;
@@ -25,7 +25,7 @@ use icbmsg::Control;
 use icbmsg::Numbers;
 use refusal::Refusal;
 
-// Kind 0: a data message has arrived.
+// Kind 0: a data message has arrived. The endpoint that it reaches is bound with it, if it was waiting.
 fn data_sent(
     n: Numbers,
     t: &mut [u8],
@@ -33,13 +33,17 @@ fn data_sent(
     rx: &[u8],
     address: u8,
     block: u8,
-) -> Answer
+) -> Called
     requires { ⌜ (openNumbers (n .alignment) (n .tx) (n .rx) (n .write) (n .read) ≡ true) × (length (now rx) ≡ n .rx .length) × (length (now t) ≡ 3136) ⌝ }
-    ensures { λ r. ⌜ OnEndpoints (λ e. answerTo (dataRule e address block) (now (rx .entry))) n (now (t .entry)) endpoints r (now (t .exit)) ⌝ }
+    ensures { λ r. ⌜ ChangesEndpoints (λ e. answerTo (dataRule e address block) (now (rx .entry))) n (now (t .entry)) endpoints r (now (t .exit)) ⌝ }
 {
     match checks::arrivals::data_sent(n, t, endpoints, rx, address, block) {
-        Measured::Refused(x) => Answer::Refused(x),
-        Measured::Fits { length, count } => {
+        Delivery::Refused(x) => called(Answer::Refused(x)),
+        Delivery::To {
+            place,
+            length,
+            count,
+        } => {
             let s = block as usize;
             tables::take_run(
                 t,
@@ -50,10 +54,18 @@ fn data_sent(
                 address,
                 length,
             );
-            Answer::Delivered {
+            let answer = Answer::Delivered {
                 address,
                 block,
                 length,
+            };
+            if endpoints::is_bound_to(endpoints, place, address) {
+                return called(answer);
+            }
+            Called {
+                answer,
+                endpoint: endpoints::bind(endpoints, place, address),
+                binding: endpoints::SAME_BINDINGS,
             }
         }
     }
@@ -129,7 +141,7 @@ fn binding_sent(
     }
 }
 
-// Kind 3: the partner is done with a binding, and its endpoint is bound.
+// Kind 3: the partner is done with a binding, and its endpoint is bound, if data has not bound it before.
 fn binding_released(
     n: Numbers,
     t: &mut [u8],
@@ -138,7 +150,7 @@ fn binding_released(
     block: u8,
 ) -> Called
     requires { ⌜ (openNumbers (n .alignment) (n .tx) (n .rx) (n .write) (n .read) ≡ true) × (length (now t) ≡ 3136) ⌝ }
-    ensures { λ r. ⌜ Unbinds r n (now (t .entry)) endpoints address block (now (t .exit)) ⌝ }
+    ensures { λ r. ⌜ ChangesEndpoints (λ e. releasedBoundOf e address block) n (now (t .entry)) endpoints r (now (t .exit)) ⌝ }
 {
     match checks::arrivals::binding_released(n, t, address, block) {
         Run::Refused(x) => called(Answer::Refused(x)),
@@ -184,7 +196,7 @@ impl End {
             Control::TooShort => called(Answer::Refused(Refusal::TooShort)),
             Control::UnknownKind => called(Answer::Refused(Refusal::UnknownKind)),
             Control::DataSent { address, block } => {
-                called(data_sent(numbers, t, endpoints, rx, address, block))
+                data_sent(numbers, t, endpoints, rx, address, block)
             }
             Control::DataReleased(block) => called(data_released(numbers, t, block)),
             Control::BindingSent { address, block } => {

@@ -7,10 +7,10 @@ ghost use Rattle.blocks.specs.Names.{paddedName};
 ghost use Rattle.endpoints.specs.Endpoints.{goodName};
 ghost use Rattle.icbmsg.specs.Outcome.{withoutWrites};
 ghost use Rattle.icbmsg.specs.Ends.{openNumbers};
-ghost use Rattle.icbmsg.specs.Registering.{registerOf};
+ghost use Rattle.icbmsg.specs.Registering.{initiates, registerOf};
 ghost use Rattle.checks.specs.Parts.{joined};
 ghost use Rattle.link.specs.Answers.{calledOf};
-ghost use Rattle.link.specs.Parts.{Initiates, InitiatesTx, Follows};
+ghost use Rattle.link.specs.Parts.{ChangesEndpoints, InitiatesTx, Follows};
 use crate::Answer;
 use crate::Called;
 use crate::End;
@@ -38,7 +38,7 @@ fn initiate(
     i: usize,
 ) -> Called
     requires { ⌜ (openNumbers (n .alignment) (n .tx) (n .rx) (n .write) (n .read) ≡ true) × (length (now tx) ≡ n .tx .length) × (goodName 31 (now name) ≡ true) × (kept ≡ paddedName (now name)) × (length (now t) ≡ 3136) ⌝ }
-    ensures answer { λ r. ⌜ Initiates r n (now (t .entry)) endpoints (now (name .entry)) i (now (t .exit)) ⌝ }
+    ensures answer { λ r. ⌜ ChangesEndpoints (λ e. withoutWrites (initiates e (now (name .entry)) i)) n (now (t .entry)) endpoints r (now (t .exit)) ⌝ }
     ensures tx { λ _. ⌜ InitiatesTx n (now (t .entry)) endpoints (now (name .entry)) i (now (tx .entry)) (now (tx .exit)) ⌝ }
 {
     let k = name.len() as u32 + 1;

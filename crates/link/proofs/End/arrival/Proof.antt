@@ -65,17 +65,14 @@ enum-known-address c = search needs
 data-sent-requires : tie.Need-data-sent-requires
 data-sent-requires c κs = let w = opened (c .before .before .before .before) in (w .0, w .1, search needs)
 
-called-requires-4 : tie.Need-called-requires-4
-called-requires-4 c κs = search needs
-
 enum-known-block : tie.Need-enum-known-block
 enum-known-block c = search needs
 
 data-released-requires : tie.Need-data-released-requires
 data-released-requires c κs = (opened (c .before .before .before .before) .0, search needs)
 
-called-requires-5 : tie.Need-called-requires-5
-called-requires-5 c κs = search needs
+called-requires-4 : tie.Need-called-requires-4
+called-requires-4 c κs = search needs
 
 enum-known-address-2 : tie.Need-enum-known-address-2
 enum-known-address-2 c = search needs
@@ -103,15 +100,14 @@ returns-3 c =
 
 returns-4 : tie.Need-returns-4
 returns-4 c =
-    let a = c .before .before .before .before .before .before .before .before .before .before .before in
-    called-only _ _ (a .args .numbers) _ (a .args .endpoints) (a .args .bindings) (c .called4 .ensures)
-    ∙ c .before .data-sent .ensures (a .args .bindings)
-    ∙ arrival-past-6 (of a) (now (a .args .rx)) (now (a .args .message)) (lent (c .before .before .before .before .before .before)) _ (sym (c .before .before .before .before .before .decode .ensures) ∙ c .before .before .before .address .given .1)
+    let a = c .before .before .before .before .before .before .before .before .before .before in
+    c .data-sent .ensures (a .args .bindings)
+    ∙ arrival-past-6 (of a) (now (a .args .rx)) (now (a .args .message)) (lent (c .before .before .before .before .before)) _ (sym (c .before .before .before .before .decode .ensures) ∙ c .before .before .address .given .1)
 
 returns-5 : tie.Need-returns-5
 returns-5 c =
     let a = c .before .before .before .before .before .before .before .before .before .before .before in
-    called-only _ _ (a .args .numbers) _ (a .args .endpoints) (a .args .bindings) (c .called5 .ensures)
+    called-only _ _ (a .args .numbers) _ (a .args .endpoints) (a .args .bindings) (c .called4 .ensures)
     ∙ c .before .data-released .ensures (a .args .endpoints) (a .args .bindings)
     ∙ arrival-past-6 (of a) (now (a .args .rx)) (now (a .args .message)) (lent (c .before .before .before .before .before .before)) _ (sym (c .before .before .before .before .before .decode .ensures) ∙ c .before .before .before .block .given .1)
 
@@ -141,10 +137,9 @@ arrival-spec =
     called-requires-3
     enum-known-address
     data-sent-requires
-    called-requires-4
     enum-known-block
     data-released-requires
-    called-requires-5
+    called-requires-4
     enum-known-address-2
     binding-sent-requires
     enum-known-address-3
