@@ -145,18 +145,30 @@ static uint32_t measure(const struct plain_end *end, const uint8_t *rx, uint8_t 
     return 0;
 }
 
+/* The endpoint that has the address. At an initiator it has it while it waits, at a follower when it is bound. */
+static struct plain_endpoint *receiver(struct plain_end *end, uint8_t address)
+{
+    uint8_t least = end->initiator ? WAITING : BOUND;
+    for (int i = 0; i < PLAIN_ENDPOINTS; i++)
+        if (end->endpoints[i].stage >= least && end->endpoints[i].address == address)
+            return &end->endpoints[i];
+    return NULL;
+}
+
 static uint32_t data_arrives(struct plain_end *end, const uint8_t *rx, uint8_t address, uint8_t block,
                              struct plain_outcome *outcome)
 {
     uint32_t k, count;
     if (address > LAST_ADDRESS)
         return 14;
-    if (!endpoint_at(end, BOUND, address))
+    struct plain_endpoint *e = receiver(end, address);
+    if (!e)
         return 15;
     uint32_t number = measure(end, rx, block, &k, &count);
     if (number)
         return number;
     take_run(end->held, block, count, RECEIVED, address, k);
+    e->stage = BOUND;
     *outcome = (struct plain_outcome){PLAIN_DELIVERED, 0, address, block, k};
     return 0;
 }
