@@ -52,7 +52,22 @@ const fn run(start: u32, count: u32) -> Given {
     Given::Run { start, count }
 }
 
-const BENCHES: [Bench; 7] = [
+const RESERVE: Record = Record::Reserve { k: 0 };
+
+/// A byte on address 0.
+const fn send(start: u32) -> Record<'static> {
+    Record::Send {
+        start,
+        address: 0,
+        k: 1,
+    }
+}
+
+const fn delivery(address: u8, start: u32, k: u32) -> Given {
+    Given::Delivery { address, start, k }
+}
+
+const BENCHES: [Bench; 9] = [
     Bench {
         name: "blocks that a message takes",
         opening: Opening::EXAMPLE,
@@ -76,6 +91,53 @@ const BENCHES: [Bench; 7] = [
         opened: 0,
         steps: &[(Record::Register(b"example"), 0, Given::Control([2, 0, 0]))],
         afterwards: (Slice::Transmit, 0x400, b"\x08\0\0\0example\0"),
+    },
+    Bench {
+        name: "data completes a binding",
+        opening: Opening::EXAMPLE.swapped(),
+        opened: 0,
+        steps: &[
+            (Record::Register(b"pump"), 0, Given::Control([2, 0, 0])),
+            (Record::Register(b"valve"), 0, Given::Control([2, 1, 1])),
+            (RESERVE, 0, run(2, 1)),
+            (Record::Arrival(&[0, 0, 16]), 16, Given::Nothing),
+            (send(2), 15, Given::Nothing),
+            // A byte more than the last block has.
+            (receive(1952, &[93]), 0, Given::Nothing),
+            (Record::Arrival(&[0, 0, 15]), 17, Given::Nothing),
+            (send(2), 15, Given::Nothing),
+            (Record::Arrival(&[0, 1, 3]), 0, delivery(1, 3, 0)),
+            (Record::Arrival(&[0, 0, 3]), 18, Given::Nothing),
+            (send(2), 15, Given::Nothing),
+            (receive(704, &[5]), 0, Given::Nothing),
+            (Record::Arrival(&[0, 0, 2]), 0, delivery(0, 2, 5)),
+            (send(2), 0, Given::Control([0, 0, 2])),
+            (Record::Register(b"pump"), 21, Given::Nothing),
+            // Both bindings hold their blocks until they are released.
+            (RESERVE, 0, run(3, 1)),
+            (Record::Arrival(&[3, 0, 0]), 0, Given::Nothing),
+            (RESERVE, 0, run(0, 1)),
+            (send(0), 0, Given::Control([0, 0, 0])),
+            (Record::Arrival(&[3, 0, 0]), 25, Given::Nothing),
+            (Record::Arrival(&[0, 0, 4]), 0, delivery(0, 4, 0)),
+        ],
+        afterwards: (Slice::Transmit, 0x400, &[1, 0, 0, 0]),
+    },
+    Bench {
+        name: "data for a follower that waits",
+        opening: Opening::EXAMPLE,
+        opened: 0,
+        steps: &[
+            (Record::Register(b"pump"), 0, Given::Nothing),
+            (RESERVE, 0, run(0, 1)),
+            (Record::Arrival(&[0, 0, 0]), 15, Given::Nothing),
+            (send(0), 15, Given::Nothing),
+            (receive(0x400, b"\x05\0\0\0pump\0"), 0, Given::Nothing),
+            (Record::Arrival(&[2, 0, 0]), 0, Given::Control([3, 0, 0])),
+            (Record::Arrival(&[0, 0, 0]), 0, delivery(0, 0, 5)),
+            (send(0), 0, Given::Control([0, 0, 0])),
+        ],
+        afterwards: (Slice::Transmit, 0x200, &[1, 0, 0, 0]),
     },
     Bench {
         name: "packet for data, address 2, block 5",

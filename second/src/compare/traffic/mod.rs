@@ -14,6 +14,7 @@ mod planted;
 mod session;
 mod shrink;
 mod soak;
+mod stages;
 
 pub use case::Case;
 pub use failure::in_script_main;
@@ -23,6 +24,7 @@ pub use soak::run as soak;
 use crate::compare::random::Random;
 use crate::compare::report::{Group, Report};
 use crate::compare::{Opponent, Settings};
+use honest::{Honest, Overtaken};
 use newer::Newer;
 use outcomes::Outcomes;
 
@@ -31,6 +33,8 @@ struct Batch {
     cases: Vec<Case>,
     /// What was found wrong when they were made.
     complaints: Vec<String>,
+    /// What honest ends did about early data.
+    overtaken: Overtaken,
     /// One more script: the case with the changes of a newer partner.
     newer: Option<Newer>,
 }
@@ -40,6 +44,7 @@ impl Batch {
         Batch {
             cases: cases.into(),
             complaints: Vec::new(),
+            overtaken: Overtaken::default(),
             newer: None,
         }
     }
@@ -63,9 +68,14 @@ const KINDS: [Kind; 5] = [
         name: "honest",
         share: 35,
         make: |random| {
-            let (cases, complaints) = honest::honest(random);
+            let Honest {
+                cases,
+                complaints,
+                overtaken,
+            } = honest::honest(random);
             Batch {
                 complaints,
+                overtaken,
                 ..Batch::of(cases)
             }
         },
@@ -95,7 +105,7 @@ const KINDS: [Kind; 5] = [
 fn newer_partner(random: &mut Random) -> Batch {
     let base = match random.below(4) {
         0 => {
-            let ([case, _], _) = honest::honest(random);
+            let [case, _] = honest::honest(random).cases;
             case
         }
         1 => lone::nonsense(random),
@@ -158,7 +168,7 @@ pub fn run(settings: &Settings, report: &mut Report) {
     report.group("end bench: outcomes stated beforehand", |group| {
         bench::compare(group, settings.opponent);
     });
-    let mut outcomes = Outcomes::default();
+    let mut outcomes = Outcomes::new();
     let mut calls = 0;
     for mut source in Source::all(settings.seed, settings.calls) {
         report.group(&format!("end random: {}", source.kind.name), |group| {
@@ -184,6 +194,7 @@ fn compare_all(
     let mut failures = 0;
     while !source.is_finished() && failures < MOST_FAILURES {
         let batch = source.make();
+        outcomes.count_overtaken(&batch.overtaken);
         let failed = compare(group, source, &batch, opponent, outcomes);
         failures += u64::from(failed);
     }

@@ -1,9 +1,12 @@
 //! How often each call had each outcome.
 
+use std::array::from_fn;
 use std::collections::BTreeMap;
 
+use super::honest::Overtaken;
+use super::stages::Stages;
 use crate::compare::report::Group;
-use crate::compare::tally::Tally;
+use crate::compare::tally::{check_least, Tally};
 use crate::link::end::ControlKind;
 use crate::link::refusal::outcome_name;
 use crate::link::script::{Record, Row};
@@ -34,7 +37,7 @@ const AFTER_DROP: &str = "pull, next after a 9";
 /// and the outcomes with which it gives that. Push can also be refused by 11,
 /// which is for contents of over 65,535 bytes: no script can hold one, and
 /// the ring comparison has it.
-const OUTCOMES: [(&str, With, &[u32]); 29] = [
+const OUTCOMES: [(&str, With, &[u32]); 44] = [
     ("opening", With::Nothing, &[0, 1, 2, 3, 4, 5]),
     ("arrival, empty", With::Nothing, &[6, 12]),
     ("arrival, unknown kind", With::Nothing, &[6, 13]),
@@ -74,6 +77,22 @@ const OUTCOMES: [(&str, With, &[u32]); 29] = [
     ("view", With::Nothing, &[0, 6, 25]),
     ("room question", With::Nothing, &[0, 6, 25]),
     ("view question", With::Nothing, &[0, 6, 25]),
+    // Calls on endpoints on their way to be bound, counted once more.
+    ("data, waiting", With::Delivery, &[0]),
+    ("data, waiting", With::Nothing, &[16, 17, 18]),
+    ("data, refused before", With::Delivery, &[0]),
+    ("data, refused before", With::Nothing, &[16, 17, 18]),
+    ("data, bound by data", With::Delivery, &[0]),
+    ("data, bound by data", With::Nothing, &[16, 17, 18]),
+    ("data 0, follower waits", With::Nothing, &[15]),
+    ("kind 3, waiting", With::Nothing, &[0]),
+    ("kind 3, refused before", With::Nothing, &[0]),
+    ("kind 3, bound by data", With::Nothing, &[0]),
+    ("kind 3, a second time", With::Nothing, &[25]),
+    ("send, waiting", With::Nothing, &[15, 25]),
+    ("send, refused before", With::Nothing, &[15, 25]),
+    ("send, bound by data", control(ControlKind::Data), &[0]),
+    ("send, bound by data", With::Nothing, &[23, 25]),
 ];
 
 /// What the list calls a record; none if it is no call.
@@ -130,20 +149,41 @@ impl With {
     }
 }
 
-#[derive(Default)]
 pub struct Outcomes {
     tallies: [Tally; OUTCOMES.len()],
     /// Calls that gave what they never give, in words.
     others: BTreeMap<String, u64>,
     /// The last pull of the script was refused by 9.
     after_drop: bool,
+    /// The endpoints of the script's end.
+    stages: Stages,
+    /// Of honest ends.
+    overtaken: Overtaken,
 }
 
 impl Outcomes {
+    pub fn new() -> Self {
+        Outcomes {
+            tallies: from_fn(|_| Tally::default()),
+            others: BTreeMap::new(),
+            after_drop: false,
+            stages: Stages::default(),
+            overtaken: Overtaken::default(),
+        }
+    }
+
     /// A script begins.
     pub fn count_opening(&mut self, row: &Row) {
         self.after_drop = false;
+        self.stages = Stages::default();
         self.count_call("opening", row);
+    }
+
+    /// Two honest ends have been made.
+    pub fn count_overtaken(&mut self, overtaken: &Overtaken) {
+        self.overtaken.bound += overtaken.bound;
+        self.overtaken.sent += overtaken.sent;
+        self.overtaken.released += overtaken.released;
     }
 
     /// True if the record is a call.
@@ -158,6 +198,10 @@ impl Outcomes {
             }
             self.after_drop = row.number() == 9;
         }
+        if let Some(call) = self.stages.call(record, row) {
+            self.count_call(call, row);
+        }
+        self.stages.follow(record, row);
         call.is_some()
     }
 
@@ -192,6 +236,23 @@ impl Outcomes {
         }
         for (other, times) in &self.others {
             group.mismatch(|| format!("{other} occurred {times} times, and never should"));
+        }
+        self.check_overtaken(group);
+    }
+
+    fn check_overtaken(&self, group: &mut Group) {
+        let Overtaken {
+            bound,
+            sent,
+            released,
+        } = self.overtaken;
+        for (what, times) in [
+            ("honest data that came before kind 3", bound),
+            ("honest sends after it, before kind 3", sent),
+            ("honest kind 3 that came after data", released),
+        ] {
+            println!("{what}: {times}");
+            check_least(group, what, times);
         }
     }
 }

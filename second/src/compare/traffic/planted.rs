@@ -23,9 +23,15 @@ const NEWER_FAULTS: [Fault; 8] = [
 ];
 
 /// Faults that two ends with them notice without a comparison.
-const HONEST_FAULTS: [Fault; 5] = [
+const HONEST_FAULTS: [Fault; 11] = [
     Fault::EmptyIsBroken,
-    Fault::WaitingIsBound,
+    Fault::EarlyDataRefused,
+    Fault::EarlyDataSwallowed,
+    Fault::DataLeavesWaiting,
+    Fault::DataFreesBinding,
+    Fault::LateReleaseRefused,
+    Fault::LateReleaseHolds,
+    Fault::LateReleaseUnbinds,
     Fault::BoundHolds,
     Fault::CountInByte,
     Fault::ViewFromHeader,
@@ -52,8 +58,8 @@ pub fn run(settings: &Settings, report: &mut Report) {
     report.group("faults: honest use notices them", |group| {
         for fault in HONEST_FAULTS {
             find(group, settings, fault, |random| {
-                let (_, complaints) = fault::with(fault, || honest::honest(random));
-                !complaints.is_empty()
+                let made = fault::with(fault, || honest::honest(random));
+                !made.complaints.is_empty()
             });
         }
     });

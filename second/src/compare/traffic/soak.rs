@@ -12,7 +12,7 @@ const CALLS_PER_SEED: u64 = 50_000;
 
 pub fn run(settings: &Settings, minutes: u64, report: &mut Report) {
     let end = Instant::now() + Duration::from_secs(60 * minutes);
-    let mut outcomes = Outcomes::default();
+    let mut outcomes = Outcomes::new();
     report.group(&format!("soak of {minutes} minutes"), |group| {
         let seeds = (0..).map(|round| settings.seed.wrapping_add(round));
         for seed in seeds {

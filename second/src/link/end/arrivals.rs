@@ -28,17 +28,43 @@ impl Open {
         Ok(answer)
     }
 
+    /// Data is also a sign that the partner has taken the binding of an endpoint
+    /// that still waits. Its blocks stay in use: the partner releases them.
     fn data(&mut self, receive: &[u8], control: Control) -> Result<Answer, Refusal> {
         let address = control.address;
-        let bound = self.check_bound(address.into());
-        in_order(Fault::BoundBeforeAddress, control.check_address(), bound)?;
-        let Message { start, count, k } = self.message(receive, control)?;
+        let reached = self.check_reached(control)?;
+        let waits = !self.endpoints[reached].bound;
+        let message = self.message(receive, control);
+        let binds = match &message {
+            Ok(_) => !planted(Fault::DataLeavesWaiting),
+            Err(Refusal::BadBlock) => planted(Fault::BadBlockBinds),
+            Err(Refusal::PastTheLastBlock) => planted(Fault::PastLastBinds),
+            Err(_) => planted(Fault::HeldBlockBinds),
+        };
+        if waits && binds {
+            self.bind_by_data(reached, control);
+        }
+        let Message { start, count, k } = message?;
+        if waits && planted(Fault::EarlyDataSwallowed) {
+            return Ok(Answer::default());
+        }
         let kept = unless(Fault::SizeInTwoBytes, k, k & 0xFFFF);
         self.incoming.hold(start, count, Incoming::Data { k: kept });
         let given = Given::Delivery { address, start, k };
         let wrong = Given::Control([address, control.block, k as u8]);
         let given = unless(Fault::DataGivesControl, given, wrong);
         Ok(Answer::giving(given))
+    }
+
+    /// The endpoint that data is for, by its place.
+    fn check_reached(&self, control: Control) -> Result<usize, Refusal> {
+        let reached = self.reached(control.address);
+        let good = control.check_address();
+        if planted(Fault::BlockBeforeBound) {
+            good.and(self.receive.check_block(control.start()))?;
+        }
+        in_order(Fault::BoundBeforeAddress, good, reached.map(|_| ()))?;
+        reached
     }
 
     /// The partner is done with a data message. What it takes was recorded
@@ -81,6 +107,8 @@ impl Open {
         Ok(Answer::default())
     }
 
+    /// The partner has taken a binding; if data came first, its endpoint is bound
+    /// already.
     fn release_bound(&mut self, control: Control) -> Result<Answer, Refusal> {
         let Control { address, .. } = control;
         let in_range = check_released(&self.transmit, control);
@@ -89,13 +117,21 @@ impl Open {
         if planted(Fault::RefusedReleaseBinds) {
             self.confirm(address);
         }
-        self.outgoing.find(start, |state| match state {
+        let late = self.check_bound(address.into()).is_ok();
+        let sent = self.outgoing.find(start, |state| match state {
             Outgoing::Binding { address: sent } => {
-                *sent == address || planted(Fault::AnyAddressReleased)
+                let refused = late && planted(Fault::LateReleaseRefused);
+                !refused && (*sent == address || planted(Fault::AnyAddressReleased))
             }
             Outgoing::Data | Outgoing::Reserved => false,
-        })?;
-        self.outgoing.release(start);
+        });
+        if sent.is_err() && late && planted(Fault::SecondReleaseTaken) {
+            return Ok(Answer::default());
+        }
+        sent?;
+        if !(late && planted(Fault::LateReleaseHolds)) {
+            self.outgoing.release(start);
+        }
         self.confirm(address);
         Ok(Answer::default())
     }

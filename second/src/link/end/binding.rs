@@ -1,7 +1,7 @@
 //! Endpoints: their names, and how both ends agree on their addresses.
 
 use super::answer::{Answer, Given, Slice, Written};
-use super::control::ControlKind;
+use super::control::{Control, ControlKind};
 use super::messages::{Incoming, Outgoing};
 use super::Open;
 use crate::link::fault::{in_order, planted, unless, Fault};
@@ -163,7 +163,51 @@ impl Open {
     /// The partner has taken the binding message of this address.
     pub fn confirm(&mut self, address: u8) {
         for endpoint in &mut self.endpoints {
-            endpoint.bound |= endpoint.address == Some(address);
+            if endpoint.address == Some(address) {
+                let wrong = !endpoint.bound;
+                endpoint.bound = unless(Fault::LateReleaseUnbinds, true, wrong);
+            }
+        }
+    }
+
+    /// The place of the endpoint that data of this address is for. An initiator's
+    /// has its address from the beginning, a follower's as soon as it is bound.
+    pub fn reached(&self, address: u8) -> Result<usize, Refusal> {
+        let mut endpoints = self.endpoints.iter();
+        let reached = endpoints.position(|endpoint| match endpoint.address {
+            Some(own) => own == address && (endpoint.bound || !planted(Fault::EarlyDataRefused)),
+            None => {
+                let zero = address == 0 && planted(Fault::ZeroReachesWaiting);
+                zero || planted(Fault::AnyReachesWaiting)
+            }
+        });
+        reached.ok_or(Refusal::NotBound)
+    }
+
+    /// Binds the endpoint that data has come for, at a place where one waits.
+    pub fn bind_by_data(&mut self, reached: usize, control: Control) {
+        let mut endpoints = self.endpoints.iter();
+        let first = endpoints.position(|endpoint| !endpoint.bound);
+        let wrong = first.unwrap_or(reached);
+        let endpoint = &mut self.endpoints[unless(Fault::OtherWaitingBound, reached, wrong)];
+        let address = endpoint.address.unwrap_or(control.address);
+        endpoint.bind(unless(Fault::BlockIsAddress, address, control.block));
+        if planted(Fault::DataTakesName) {
+            endpoint.name = Name(Vec::new());
+        }
+        if planted(Fault::AllWaitingBound) {
+            for endpoint in &mut self.endpoints {
+                endpoint.bound = true;
+            }
+        }
+        if planted(Fault::DataFreesBinding) {
+            let sent = |state: &Outgoing| match state {
+                Outgoing::Binding { address: sent } => *sent == address,
+                Outgoing::Data | Outgoing::Reserved => false,
+            };
+            for start in self.outgoing.starts(sent) {
+                self.outgoing.release(start);
+            }
         }
     }
 
@@ -173,7 +217,7 @@ impl Open {
         let address = unless(Fault::AddressInByte, address, address & 0xFF);
         let bound = self.endpoints.iter().any(|endpoint| {
             endpoint.address.map(u32::from) == Some(address)
-                && (endpoint.bound || planted(Fault::WaitingIsBound))
+                && (endpoint.bound || planted(Fault::WaitingSends))
         });
         refuse(!bound, Refusal::NotBound)
     }

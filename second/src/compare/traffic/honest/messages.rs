@@ -1,7 +1,7 @@
 //! Endpoints and their messages: registered, sent, seen, and given back.
 
 use super::{names, Message, Pair, Side};
-use crate::link::end::{Given, Slice, MOST_ENDPOINTS, RELEASE_BOUND};
+use crate::link::end::{Given, Slice, BOUND, MOST_ENDPOINTS, RELEASE_BOUND};
 use crate::link::script::Record;
 
 pub fn register(pair: &mut Pair, side: usize) -> bool {
@@ -13,14 +13,20 @@ pub fn register(pair: &mut Pair, side: usize) -> bool {
     // names come last: one that never fits keeps those behind it out.
     let number = if side == 0 { number } else { number ^ 1 };
     let name = names::numbered(number as u64 * names::NAMES / MOST_ENDPOINTS as u64);
+    let free = pair.sides[side].free();
     let outcome = pair.call(side, Record::Register(&name), &[23, 24]);
     if outcome.number != 0 {
         return false;
     }
     let caller = &mut pair.sides[side];
     caller.registered += 1;
-    if let Given::Control([RELEASE_BOUND, address, _]) = outcome.answer.given {
-        caller.bound.push(address);
+    match outcome.answer.given {
+        Given::Control([BOUND, address, _]) => {
+            let blocks = free.saturating_sub(caller.free());
+            caller.announced.insert(address, blocks);
+        }
+        Given::Control([RELEASE_BOUND, address, _]) => caller.bound.push(address),
+        _ => {}
     }
     pair.answered(side, &outcome);
     true
@@ -69,8 +75,39 @@ pub fn use_room(pair: &mut Pair, side: usize) -> bool {
         return false;
     }
     let start = pair.random.pick(reserved);
-    let address = pair.random.pick(bound);
+    let address = bound_address(pair, side);
+    let content = fill_room(pair, side, start);
+    let record = Record::Send {
+        start,
+        address: address.into(),
+        k: content.len() as u32,
+    };
+    let outcome = pair.call(side, record, &[]);
+    pair.answered(side, &outcome);
+    let caller = &mut pair.sides[side];
+    caller.reserved.retain(|&reserved| reserved != start);
+    caller.sent.insert(start, Message { address, content });
+    let early = caller.announced.contains_key(&address);
+    pair.overtaken.sent += u64::from(early);
+    true
+}
 
+/// One of the addresses that are bound. One that data alone has bound is
+/// preferred: it is so for a short time.
+fn bound_address(pair: &mut Pair, side: usize) -> u8 {
+    let Side {
+        bound, announced, ..
+    } = &pair.sides[side];
+    let any = pair.random.pick(bound);
+    let early = bound.iter().find(|address| announced.contains_key(address));
+    match early {
+        Some(&early) if pair.random.one_in(2) => early,
+        _ => any,
+    }
+}
+
+/// Fills a part of a room, which becomes the message's content.
+fn fill_room(pair: &mut Pair, side: usize, start: u32) -> Vec<u8> {
     let place = pair.call(side, Record::Room { start }, &[]).answer.place;
     let k = match pair.random.below(4) {
         0 => place.len(),
@@ -84,19 +121,7 @@ pub fn use_room(pair: &mut Pair, side: usize) -> bool {
         .session
         .write(Slice::Transmit, place.start, &bytes);
     pair.mirror(side, Slice::Transmit, place.start..place.start + filled);
-    let content = pair.sides[side].session.transmit[place.start..place.start + k].to_vec();
-
-    let record = Record::Send {
-        start,
-        address: address.into(),
-        k: k as u32,
-    };
-    let outcome = pair.call(side, record, &[]);
-    pair.answered(side, &outcome);
-    let caller = &mut pair.sides[side];
-    caller.reserved.retain(|&reserved| reserved != start);
-    caller.sent.insert(start, Message { address, content });
-    true
+    pair.sides[side].session.transmit[place.start..place.start + k].to_vec()
 }
 
 pub fn view(pair: &mut Pair, side: usize) -> bool {

@@ -6,14 +6,15 @@
 //! any of the answers that wait is pushed next, and any of the control messages
 //! that were pulled is handed over next.
 //!
-//! So a follower's data can overtake its release of the binding. The
-//! initiator's endpoint is not yet bound then; the data is refused by 15 and
-//! handed over again later. No other message can overtake one that it needs: an
-//! initiator sends data only when its partner has bound, and blocks are used
+//! So a follower's data can overtake its release of the binding. It binds the
+//! initiator's endpoint, which is sent on from then on; the blocks of the
+//! binding are free when the release has come, too. No message can overtake one
+//! that it needs: data of a follower needs no more than an endpoint that waits,
+//! an initiator sends data only when its partner has bound, and blocks are used
 //! again only when their release has arrived.
 //!
-//! These refusals are all that the ends can meet: 8, nothing to pull yet; 15,
-//! early data; 24, blocks in use; 23, a message or name longer than all blocks.
+//! These refusals are all that the ends can meet: 8, nothing to pull yet; 24,
+//! blocks in use; 23, a message or name longer than all blocks.
 
 mod messages;
 mod packets;
@@ -61,8 +62,28 @@ const SETTLING: [Act; 5] = [
 /// be pushed takes two to be released, and the two sides take turns.
 const SETTLING_ROUNDS: usize = 4;
 
-/// Both ends' scripts, and what went wrong, if something did.
-pub fn honest(random: &mut Random) -> ([Case; 2], Vec<String>) {
+/// What two ends came to.
+pub struct Honest {
+    /// Both ends' scripts.
+    pub cases: [Case; 2],
+    /// What went wrong, if something did.
+    pub complaints: Vec<String>,
+    pub overtaken: Overtaken,
+}
+
+/// How often a follower's data came before its release of the binding, and what
+/// the initiator did about it.
+#[derive(Clone, Copy, Default)]
+pub struct Overtaken {
+    /// Data that bound its endpoint.
+    pub bound: u64,
+    /// Messages sent on such an endpoint before the release came.
+    pub sent: u64,
+    /// Releases that came afterwards.
+    pub released: u64,
+}
+
+pub fn honest(random: &mut Random) -> Honest {
     let opening = openings::good(random);
     let records = openings::records(random, &opening);
     let spare = random.pick(&[0, 0, 1, 8]);
@@ -71,6 +92,7 @@ pub fn honest(random: &mut Random) -> ([Case; 2], Vec<String>) {
             .map(|opening| Side::new(Session::open(opening, BUFFER, spare))),
         random,
         complaints: Vec::new(),
+        overtaken: Overtaken::default(),
     };
     pair.talk(records);
     pair.settle();
@@ -79,9 +101,13 @@ pub fn honest(random: &mut Random) -> ([Case; 2], Vec<String>) {
         sides,
         random,
         complaints,
+        overtaken,
     } = pair;
-    let cases = sides.map(|side| side.session.finish(random));
-    (cases, complaints)
+    Honest {
+        cases: sides.map(|side| side.session.finish(random)),
+        complaints,
+        overtaken,
+    }
 }
 
 /// A data message on its way, or held by its receiver.
@@ -101,11 +127,13 @@ struct Side {
     bonded: bool,
     /// Control messages to be pushed.
     to_push: Vec<[u8; 3]>,
-    /// Contents pulled and not yet handed over, or refused as early.
+    /// Contents pulled and not yet handed over.
     pulled: Vec<Vec<u8>>,
     registered: usize,
     /// Addresses this side knows to be bound.
     bound: Vec<u8>,
+    /// Blocks of the bindings it sent, by address, until they are released.
+    announced: BTreeMap<u8, u32>,
     reserved: Vec<u32>,
     /// Messages it sent, by start, until they are released.
     sent: BTreeMap<u32, Message>,
@@ -125,6 +153,7 @@ impl Side {
             pulled: Vec::new(),
             registered: 0,
             bound: Vec::new(),
+            announced: BTreeMap::new(),
             reserved: Vec::new(),
             sent: BTreeMap::new(),
             held: Vec::new(),
@@ -134,12 +163,19 @@ impl Side {
     fn state(&self) -> &Open {
         self.session.state().expect("a good opening")
     }
+
+    /// Free blocks to transmit.
+    fn free(&self) -> u32 {
+        let open = self.state();
+        open.transmit.free(&open.outgoing)
+    }
 }
 
 struct Pair<'r> {
     sides: [Side; 2],
     random: &'r mut Random,
     complaints: Vec<String>,
+    overtaken: Overtaken,
 }
 
 impl Pair<'_> {
@@ -177,7 +213,8 @@ impl Pair<'_> {
     }
 
     /// Brings everything that is under way to its end. Then all blocks are
-    /// free but those of bindings that nobody has registered for.
+    /// free but those of bindings that nobody has registered for, and whose
+    /// endpoints are therefore not bound.
     fn settle(&mut self) {
         for side in [0, 1] {
             if !self.sides[side].started {
@@ -191,14 +228,13 @@ impl Pair<'_> {
         }
         for side in &self.sides {
             let open = side.state();
-            let bindings_only = open
-                .outgoing
+            let bindings_only = open.outgoing.iter().all(|run| match run.state {
+                Outgoing::Binding { address } => !side.bound.contains(&address),
+                Outgoing::Data | Outgoing::Reserved => false,
+            }) && open
+                .incoming
                 .iter()
-                .all(|run| matches!(run.state, Outgoing::Binding { .. }))
-                && open
-                    .incoming
-                    .iter()
-                    .all(|run| matches!(run.state, Incoming::Stored { .. }));
+                .all(|run| matches!(run.state, Incoming::Stored { .. }));
             if !bindings_only || !side.sent.is_empty() {
                 self.complaints
                     .push("a message was never released".to_string());

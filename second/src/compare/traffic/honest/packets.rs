@@ -32,54 +32,34 @@ pub fn pull(pair: &mut Pair, side: usize) -> bool {
     true
 }
 
-/// Hands over what was pulled until one message is taken. What is early is kept
-/// to be handed over again.
+/// Hands over something that was pulled.
 pub fn arrival(pair: &mut Pair, side: usize) -> bool {
-    let mut early = Vec::new();
-    let mut taken = false;
-    while !taken {
-        let Some(content) = pair.random.take(&mut pair.sides[side].pulled) else {
-            break;
-        };
-        taken = hand_over(pair, side, &content);
-        if !taken {
-            early.push(content);
-        }
-    }
-    pair.sides[side].pulled.append(&mut early);
-    taken
-}
-
-/// False if the message is early.
-fn hand_over(pair: &mut Pair, side: usize, content: &[u8]) -> bool {
-    let (Ok(control), CONTROL) = (Control::read(content), content.len()) else {
+    let Some(content) = pair.random.take(&mut pair.sides[side].pulled) else {
+        return false;
+    };
+    let (Ok(control), CONTROL) = (Control::read(&content), content.len()) else {
         pair.complain(format!("{content:02x?} was pulled"));
         return true;
     };
-    let address = control.address;
-    let bound = pair.sides[side].bound.contains(&address);
-    let early = control.kind == ControlKind::Data && !bound;
-    let refusals: &[u32] = if early { &[15] } else { &[] };
-    let outcome = pair.call(side, Record::Arrival(content), refusals);
-    if early && outcome.number == 15 {
-        return false;
-    }
-    if early && outcome.number == 0 {
-        pair.complain(format!(
-            "data for {address:#x} was accepted before it was bound"
-        ));
-    }
-    arrived(pair, side, control, &outcome);
+    let free = pair.sides[side].free();
+    let outcome = pair.call(side, Record::Arrival(&content), &[]);
+    let freed = pair.sides[side].free().saturating_sub(free);
+    arrived(pair, side, control, &outcome, freed);
     true
 }
 
-fn arrived(pair: &mut Pair, side: usize, control: Control, outcome: &Outcome) {
+/// What comes of an arrival by which so many transmit blocks were freed.
+fn arrived(pair: &mut Pair, side: usize, control: Control, outcome: &Outcome, freed: u32) {
     let start = control.start();
     let caller = &mut pair.sides[side];
     match control.kind {
         ControlKind::Data => {
             caller.held.push(start);
             check_arrived(pair, side, outcome);
+            if freed > 0 {
+                pair.complain(format!("data freed {freed} blocks"));
+            }
+            bound_by_data(pair, side, control.address);
         }
         ControlKind::ReleaseData => {
             if caller.sent.remove(&start).is_none() {
@@ -92,7 +72,38 @@ fn arrived(pair: &mut Pair, side: usize, control: Control, outcome: &Outcome) {
             }
             pair.answered(side, outcome);
         }
-        ControlKind::ReleaseBound => caller.bound.push(control.address),
+        ControlKind::ReleaseBound => released(pair, side, control.address, freed),
+    }
+}
+
+/// If data came before the release of the binding, its address is known to be
+/// bound by it.
+fn bound_by_data(pair: &mut Pair, side: usize, address: u8) {
+    let caller = &mut pair.sides[side];
+    if caller.bound.contains(&address) {
+        return;
+    }
+    caller.bound.push(address);
+    pair.overtaken.bound += 1;
+    if !pair.sides[side].announced.contains_key(&address) {
+        pair.complain(format!("data for {address}, which was never announced"));
+    }
+}
+
+/// The blocks of a binding are free when it is released, whether data came
+/// before or not.
+fn released(pair: &mut Pair, side: usize, address: u8, freed: u32) {
+    let caller = &mut pair.sides[side];
+    if caller.bound.contains(&address) {
+        pair.overtaken.released += 1;
+    } else {
+        caller.bound.push(address);
+    }
+    let blocks = caller.announced.remove(&address);
+    if blocks != Some(freed) {
+        pair.complain(format!(
+            "{freed} blocks are free with the binding of {address}, which took {blocks:?}"
+        ));
     }
 }
 

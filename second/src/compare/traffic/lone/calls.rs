@@ -3,7 +3,7 @@
 use super::arguments::{incoming, odd_length, outgoing, receive, transmit};
 use super::{names, Lone, HOSTILE_ACTS};
 use crate::compare::ring::inputs::{buffer_length, content_length};
-use crate::link::end::{number_at, Outgoing, Slice};
+use crate::link::end::{number_at, Given, Outgoing, Slice};
 use crate::link::ring::LONGEST_CONTENT;
 use crate::link::script::Record;
 
@@ -60,6 +60,26 @@ pub fn send(lone: &mut Lone) {
         runs.find(|run| run.start == start).map(|run| run.count)
     });
     let k = lone.size(transmit, count.unwrap_or(1));
+    lone.session.play(Record::Send { start, address, k });
+}
+
+/// Sends something, for which blocks are reserved if none are.
+pub fn send_on(lone: &mut Lone, address: u8) {
+    let mut reserved = outgoing(&lone.session, |state| matches!(state, Outgoing::Reserved));
+    if reserved.is_empty() {
+        let outcome = lone.session.play(Record::Reserve { k: 0 });
+        let Given::Run { start, .. } = outcome.answer.given else {
+            return;
+        };
+        reserved.push(start);
+    }
+    let start = lone.random.pick(&reserved);
+    let address = address.into();
+    let k = if lone.random.one_in(3) {
+        lone.size(transmit, 1)
+    } else {
+        0
+    };
     lone.session.play(Record::Send { start, address, k });
 }
 

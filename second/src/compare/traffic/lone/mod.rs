@@ -19,7 +19,7 @@ const FILLED_AT_FIRST: usize = 1 << 13;
 type Act = fn(&mut Lone);
 
 /// What a hostile partner and an honest caller do.
-const HOSTILE_ACTS: [Act; 22] = [
+const HOSTILE_ACTS: [Act; 23] = [
     calls::start,
     calls::push,
     partner::reads,
@@ -34,6 +34,7 @@ const HOSTILE_ACTS: [Act; 22] = [
     calls::room,
     calls::view,
     partner::data,
+    partner::early_data,
     partner::release_data,
     partner::bound,
     partner::release_bound,

@@ -124,6 +124,38 @@ pub fn data(lone: &mut Lone) {
     lone.control(ControlKind::Data, address, block);
 }
 
+/// Data for an endpoint that waits, and now and then a send on it, which shows
+/// whether it still does. A follower's has no address, and 0 is the one that
+/// could be taken for it.
+pub fn early_data(lone: &mut Lone) {
+    let Some(open) = lone.session.state() else {
+        return;
+    };
+    let waiting = open.endpoints.iter().filter(|endpoint| !endpoint.bound);
+    let waiting: Vec<u8> = waiting.map(|e| e.address.unwrap_or(0)).collect();
+    if waiting.is_empty() {
+        return;
+    }
+    let block_count = open.receive.block_count();
+    let block_size = open.receive.layout.block_size;
+    let held = incoming(&lone.session);
+    let address = lone.random.pick(&waiting);
+    let (block, k) = match lone.random.below(6) {
+        0 => (block_count.min(255) as u8, 0),
+        1 => ((block_count - 1) as u8, block_size - 3),
+        2 if !held.is_empty() => (lone.random.pick(&held) as u8, 0),
+        _ => {
+            let k = lone.random.below(2 * u64::from(block_size)) as u32;
+            (lone.free_block(k as usize), k)
+        }
+    };
+    lone.message(block, k, &[]);
+    lone.control(ControlKind::Data, address, block);
+    if lone.random.one_in(2) {
+        calls::send_on(lone, address);
+    }
+}
+
 pub fn release_data(lone: &mut Lone) {
     let sent = if lone.random.one_in(3) {
         outgoing(&lone.session, |_| true)
@@ -197,6 +229,10 @@ pub fn release_bound(lone: &mut Lone) {
         let block = lone.block(&wanted, lone.block_count(transmit));
         let address = lone.address() as u8;
         lone.control(ControlKind::ReleaseBound, address, block);
+        // Where it is refused, an endpoint that waits must still do so.
+        if lone.random.one_in(4) {
+            calls::send_on(lone, address);
+        }
     } else {
         let (start, address) = lone.random.pick(&sent);
         lone.control(ControlKind::ReleaseBound, address, start as u8);

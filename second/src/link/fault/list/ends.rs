@@ -21,6 +21,8 @@ macro_rules! ends {
         WrongRegionLast,
         /// 15 comes before 14
         BoundBeforeAddress,
+        /// 16 comes before 15 when data arrives
+        BlockBeforeBound,
         /// 19 comes after 14
         RoleAfterAddress,
         /// 16 comes before 14 when a binding is released
@@ -107,8 +109,8 @@ macro_rules! ends {
         KindOfTwoBits,
         /// 14: address 0xFE is accepted
         AddressFeAccepted,
-        /// 15: a waiting endpoint counts as bound
-        WaitingIsBound,
+        /// 15: a waiting endpoint counts as bound at send
+        WaitingSends,
         /// 15: an address at send is cut to a byte
         AddressInByte,
         /// 16: a release may name the block behind the last one
@@ -165,6 +167,42 @@ macro_rules! ends {
         WaitingGivesControl,
         /// Kind 2 of more than three bytes gives a delivery, not control bytes
         LongBoundGivesDelivery,
+
+        // Data for a waiting endpoint, and kind 3 after it.
+        /// 15: data for an initiator's waiting endpoint is refused
+        EarlyDataRefused,
+        /// 15: address 0 reaches a follower's waiting endpoint, and binds it
+        ZeroReachesWaiting,
+        /// 15: any address reaches a follower's waiting endpoint, and binds it
+        AnyReachesWaiting,
+        /// 16: data that is refused binds the endpoint
+        BadBlockBinds,
+        /// 17: data that is refused binds the endpoint
+        PastLastBinds,
+        /// 18: data that is refused binds the endpoint
+        HeldBlockBinds,
+        /// Data is delivered, but leaves the endpoint waiting
+        DataLeavesWaiting,
+        /// Data that binds is not delivered
+        EarlyDataSwallowed,
+        /// Data binds the first endpoint that waits, whatever the address
+        OtherWaitingBound,
+        /// Data binds all endpoints that wait
+        AllWaitingBound,
+        /// Data that binds takes the endpoint's name away
+        DataTakesName,
+        /// Data that binds gives the endpoint its block number as address
+        BlockIsAddress,
+        /// Data that binds frees the blocks of the binding
+        DataFreesBinding,
+        /// 25: kind 3 is refused where data has bound the endpoint
+        LateReleaseRefused,
+        /// 25: a second kind 3 is accepted
+        SecondReleaseTaken,
+        /// Kind 3 after data leaves the blocks of the binding in use
+        LateReleaseHolds,
+        /// Kind 3 after data lets the endpoint wait again
+        LateReleaseUnbinds,
 
         // Blocks.
         /// 25: a start is cut to a byte
