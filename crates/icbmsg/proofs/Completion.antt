@@ -10,7 +10,7 @@ use lib.Seq.{getD-set-same}
 use borrow.Author.Tests.{eqb-true, leb-true, le-leb, lt-ltb, eq-eqb}
 use Rattle.wire.specs.Choice.{pick}
 use Rattle.wire.specs.Reads.{answer}
-use Rattle.wire.proofs.Choices.{both}
+use Rattle.wire.proofs.Choices.{both, or-true, or-false}
 use Rattle.blocks.specs.Search.{Search, nowhere, foundAt, isFound}
 use Rattle.blocks.specs.Names.{Name, endless, name, nameIn, paddedName}
 use Rattle.blocks.specs.Tables.{entry, starts, blocksFor, freeRun}
@@ -124,10 +124,6 @@ module _ {e : End} (w : Separate e) (n : List ℕ) (a s : ℕ) where
 or-assoc : (a b c : Bool) → ((a || b) || c) ≡ (a || (b || c))
 or-assoc true b c = refl
 or-assoc false b c = refl
-
-or-false : (a : Bool) → (a || false) ≡ a
-or-false true = refl
-or-false false = refl
 
 other-true : (a b : Bool) → b ≡ false → (a || b) ≡ true → a ≡ true
 other-true true b h k = refl
@@ -346,10 +342,6 @@ bound-exactly ps a n c len i q only = go c (endpointAt (boundAt a) ps) refl q
         absurd (false≢true (rw (z, q) at (y .0)))
 
 -- ---- the theorems
-
-or-true : (a : Bool) → (a || true) ≡ true
-or-true true = refl
-or-true false = refl
 
 module _ (e : End) (r : Reached e) (tx n : List ℕ) (a s : ℕ) (h : step e (register tx n) .given ≡ control 2 a s) where
   abbrev first : End

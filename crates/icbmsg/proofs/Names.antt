@@ -1,6 +1,6 @@
 -- No name and no address is used twice, and each binding sent belongs to one endpoint, in every end that is reached.
 use Prim.Native.Nat.{ℕ, zero, suc, _+_, _*_, _≤_, _<_, min}
-use mathlib.Core.Bool.{Bool, true, false, not, _&&_, _||_, false≢true}
+use mathlib.Core.Bool.{Bool, true, false, not, _&&_, false≢true}
 use mathlib.Core.Path.{_≡_, refl, sym, ap, _∙_}
 use mathlib.Core.Logic.{_≢_}
 use mathlib.Core.List.{List, [], _∷_}
@@ -11,7 +11,7 @@ use lib.Seq.{getD-set-same, getD-set-other}
 use borrow.Author.Tests.{eqb-true, leb-true, eq-eqb, ne-eqb, not-true}
 use Rattle.wire.specs.Choice.{pick}
 use Rattle.wire.specs.Reads.{answer}
-use Rattle.wire.proofs.Choices.{both}
+use Rattle.wire.proofs.Choices.{both, and-false, or-true}
 use Rattle.wire.proofs.Sameness.{same-true, same-self}
 use Rattle.wire.specs.Bytes.{same}
 use Rattle.icmsg.specs.Rules.{Outcome as RingOutcome, Answer, refused as ringNo, accepted as ringYes, dropped as ringDropped, pushRule as ringPush, startRule as ringStart, pullRule as ringPull}
@@ -132,14 +132,6 @@ used-bound : (s : Stage) → not (isUnused s) ≡ true → (isWaiting s ≡ true
 used-bound Unused h f = h
 used-bound Waiting h f = absurd (f refl)
 used-bound Bound h f = refl
-
-or-true : (b : Bool) → (b || true) ≡ true
-or-true true = refl
-or-true false = refl
-
-and-false : (b : Bool) → (b && false) ≡ false
-and-false true = refl
-and-false false = refl
 
 -- p, bound if b says so
 abbrev pub boundIf : Bool → Endpoint → Endpoint

@@ -9,6 +9,7 @@ use lib.ListN.{length, getD, set}
 use lib.Seq.{slice, length-slice, length-take-le}
 use borrow.Author.Tests.{not-true, not-false, le-leb, lt-leb, eqb-true, eqb-false, eq-eqb, ne-eqb}
 use Rattle.wire.specs.Choice.{pick}
+use Rattle.wire.proofs.Choices.{and-false}
 use Rattle.sheet.specs.Sheets.{has, isField, areFields, isList, nowhere, find}
 use Rattle.sheet.specs.Picks.{placeIn}
 use Rattle.sheet.specs.declared.Place.the-variants.{At}
@@ -22,10 +23,6 @@ was-true r x e h = sym e ∙ not-false r h
 
 pub was-false : (r x : Bool) → r ≡ x → not r ≡ true → x ≡ false
 was-false r x e h = sym e ∙ not-true r h
-
-and-false : (b : Bool) → (b && false) ≡ false
-and-false true = refl
-and-false false = refl
 
 -- ---- a list
 

@@ -1,6 +1,6 @@
 -- A table searched block by block: what one more block tells.
 use Prim.Native.Nat.{ℕ, zero, suc, _+_, _-_, _≤_, _<_}
-use mathlib.Core.Bool.{Bool, true, false, _&&_}
+use mathlib.Core.Bool.{Bool, true, false}
 use mathlib.Core.Logic.{⊎-elim}
 use mathlib.Core.Path.{_≡_, refl, sym, ap, _∙_}
 use mathlib.Core.List.{List}
@@ -10,17 +10,13 @@ use native.Mathlib.Numerals.{add-one}
 use lib.Dec.{leb}
 use borrow.Author.Tests.{le-leb, lt-leb}
 use Rattle.wire.specs.Choice.{pick}
-use Rattle.wire.proofs.Choices.{both}
+use Rattle.wire.proofs.Choices.{both, and-false}
 use Rattle.blocks.specs.Search.{nowhere, foundAt}
 use Rattle.blocks.specs.Tables.{inUse, allFree, freeFrom, lowest, freeRun}
 use Rattle.blocks.specs.declared.Use.the-variants.{Free}
 use Rattle.blocks.specs.declared.Entry.{Entry}
 
 -- ---- free entries from s on, i the next
-
-and-false : (b : Bool) → (b && false) ≡ false
-and-false true = refl
-and-false false = refl
 
 free-more : (t : List Entry) (s k : ℕ) → allFree t s k ≡ true → inUse Free t (s + k) ≡ true → allFree t s (suc k) ≡ true
 unfolding allFree
