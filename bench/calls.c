@@ -16,11 +16,13 @@
 enum { ALIGNMENT = 32, RX_BEGIN = 0x20000000, TX_BEGIN = 0x20100000, LARGEST = 1048576, ROUNDS = 20000, RUNS = 41 };
 enum { PROVED_TABLES = 3136 };
 
-/* What a round is made on: the alignment, then the transmit and the receive region. An initiator's receive region is the lower one. */
+/* What a round is made on: the alignment, then the transmit and the receive region. An initiator's receive region is the lower one. Of the
+ * first `taken` transmit blocks each `every`-th is reserved beforehand, or all where `every` is 0. */
 struct scene {
     uint32_t opening[7];
     uint32_t length;
     uint32_t taken;
+    uint32_t every;
     uint32_t k;
     uint32_t rounds;
 };
@@ -94,6 +96,9 @@ static uint32_t plain_reserves(const struct scene *scene)
     open_end(&end, scene);
     for (uint32_t i = 0; i < scene->taken; i++)
         plain_reserve(&end, 0, &start, &count);
+    for (uint32_t i = 0; scene->every && i < scene->taken; i++)
+        if ((i + 1) % scene->every)
+            plain_drop(&end, i);
     for (uint32_t i = 0; i < scene->rounds; i++) {
         uint32_t number = plain_reserve(&end, scene->k, &start, &count);
         sum += number_of_run(number, start, count);
@@ -144,7 +149,7 @@ static uint32_t plain_arrivals(const struct scene *scene)
 
 static uint32_t proved_reserves(const struct scene *scene)
 {
-    return petrelknob_rounds_reserve(scene->opening, scene->taken, scene->k, scene->rounds);
+    return petrelknob_rounds_reserve(scene->opening, scene->taken, scene->every, scene->k, scene->rounds);
 }
 
 static uint32_t proved_sends(const struct scene *scene)
@@ -173,7 +178,7 @@ static const struct kind arrivals = {"arrival", "arrival and done", plain_arriva
 static struct scene scene_of(uint32_t length, uint32_t tx_blocks, uint32_t rx_blocks, struct plain_end *end)
 {
     struct scene scene = {
-        {ALIGNMENT, TX_BEGIN, TX_BEGIN + length, tx_blocks, RX_BEGIN, RX_BEGIN + length, rx_blocks}, length, 0, 8, ROUNDS};
+        {ALIGNMENT, TX_BEGIN, TX_BEGIN + length, tx_blocks, RX_BEGIN, RX_BEGIN + length, rx_blocks}, length, 0, 0, 8, ROUNDS};
     if (open_end(end, &scene) != 0) {
         fprintf(stderr, "the opening was refused\n");
         exit(1);
@@ -226,6 +231,28 @@ static void compare_in(uint32_t length, uint32_t tx_blocks, uint32_t rx_blocks)
     compare(&sends, "all blocks", &scene);
 }
 
+/* Each `asked`-th block is held, so that a search goes through all blocks, and back from each held one if it rescans. Both calls of a round
+ * are refused. */
+static void compare_short(struct scene scene, const struct plain_end *end, uint32_t asked)
+{
+    char blocks[32];
+    scene.taken = end->tx.block_count;
+    scene.every = asked;
+    scene.k = asked * end->tx.block_size - 4;
+    snprintf(blocks, sizeof blocks, "%u, of runs of %u", (unsigned)asked, (unsigned)(asked - 1));
+    compare(&reserves, blocks, &scene);
+}
+
+static void compare_too_short(uint32_t length, uint32_t tx_blocks)
+{
+    static struct plain_end end;
+    struct scene scene = scene_of(length, tx_blocks, tx_blocks, &end);
+    printf("%u bytes, %u blocks, every free run one block too short\n", (unsigned)length, (unsigned)tx_blocks);
+    compare_short(scene, &end, 2);
+    compare_short(scene, &end, 16);
+    compare_short(scene, &end, tx_blocks / 2);
+}
+
 static int run_one(const char *name, const char *which, const char *rounds)
 {
     static const struct kind *const kinds[] = {&reserves, &sends, &arrivals};
@@ -250,6 +277,7 @@ int main(int argc, char **argv)
     compare_in(2048, 16, 32);
     compare_in(65536, 256, 256);
     compare_in(LARGEST, 16, 16);
+    compare_too_short(65536, 256);
     printf("size of an end in bytes: plain C %zu, proved %zu (by its fields)\n", sizeof(struct plain_end),
            sizeof(struct proved_end));
     return 0;

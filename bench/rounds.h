@@ -7,8 +7,8 @@
 #include <stddef.h>
 #include <stdint.h>
 
-/* Reserves k bytes and drops them, behind `taken` reserved blocks. */
-uint32_t petrelknob_rounds_reserve(const uint32_t *opening, uint32_t taken, uint32_t k, uint32_t rounds);
+/* Reserves k bytes and drops them. Of the first `taken` blocks each `every`-th is reserved before, where `every` is not 0; else all are. */
+uint32_t petrelknob_rounds_reserve(const uint32_t *opening, uint32_t taken, uint32_t every, uint32_t k, uint32_t rounds);
 
 /* Reserves k bytes, sends them, and has them released. */
 uint32_t petrelknob_rounds_send(const uint32_t *opening, uint8_t *tx, size_t tx_length, const uint8_t *rx, size_t rx_length,

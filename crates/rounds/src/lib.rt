@@ -68,6 +68,26 @@ fn crowded(fresh: End, taken: u32) -> End {
     end
 }
 
+// Frees the first `blocks` transmit blocks, each a run, but for each `every`-th. It is not done by drop: a second caller would keep drop out of
+// the rounds that are timed.
+fn thin(both: &mut [u8; tables::BYTES], blocks: usize, every: usize) {
+    let t = &mut both[..];
+    if every == 0 {
+        return;
+    }
+    if blocks::BLOCKS < blocks {
+        return;
+    }
+    let mut i: usize = 0;
+    while i < blocks {
+        let s = i;
+        i += 1;
+        if i % every != 0 {
+            tables::free_run(t, tables::SENT, s, 1);
+        }
+    }
+}
+
 // An initiator's end with one endpoint, bound to address 0.
 fn bound(fresh: End, tx: &mut [u8], rx: &[u8]) -> End {
     let mut end = fresh;
@@ -96,15 +116,17 @@ fn bound(fresh: End, tx: &mut [u8], rx: &[u8]) -> End {
     end
 }
 
-// Reserves k bytes and drops them, behind `taken` blocks that stay reserved.
+// Reserves k bytes and drops them, in a table whose first `taken` blocks are free, but for each `every`-th, which is reserved.
 #[no_mangle]
 pub extern "C" fn petrelknob_rounds_reserve(
     opening: &[u32; 7],
     taken: u32,
+    every: u32,
     k: u32,
     rounds: u32,
 ) -> u32 {
     let mut end = crowded(opened(opening), taken);
+    thin(&mut end.tables, taken as usize, every as usize);
     let mut sum: u32 = 0;
     let mut i: u32 = 0;
     while i < rounds {

@@ -1,49 +1,20 @@
 -- A table searched block by block: what one more block tells.
-use Prim.Native.Nat.{ℕ, zero, suc, _+_, _-_, _≤_, _<_}
+use Prim.Native.Nat.{ℕ, suc, _+_, _-_, _≤_, _<_}
 use mathlib.Core.Bool.{Bool, true, false}
-use mathlib.Core.Logic.{⊎-elim}
-use mathlib.Core.Path.{_≡_, refl, sym, ap, _∙_}
+use mathlib.Core.Path.{_≡_, sym, ap, subst₂, _∙_}
 use mathlib.Core.List.{List}
 use native.Mathlib.Omega.{arith}
-use native.Mathlib.Nat.{add-suc, suc-add, add-zero, zero-add, eq-or-lt-of-le}
+use native.Mathlib.Nat.{add-zero, zero-add}
 use native.Mathlib.Numerals.{add-one}
-use lib.Dec.{leb}
-use borrow.Author.Tests.{le-leb, lt-leb}
+use lib.ListN.{length}
 use Rattle.wire.specs.Choice.{pick}
-use Rattle.wire.proofs.Choices.{both, and-false}
-use Rattle.blocks.specs.Search.{nowhere, foundAt}
-use Rattle.blocks.specs.Tables.{inUse, allFree, freeFrom, lowest, freeRun}
+use Rattle.wire.specs.Reads.{Reads, answer, positionsRead}
+use Rattle.blocks.specs.Search.{Search, nowhere, foundAt}
+use Rattle.blocks.specs.Tables.{inUse, freeFrom}
+use Rattle.blocks.specs.OnePass.{uses, searchingFrom, searching, looked, OnePass}
+use Rattle.blocks.proofs.OnePass.{Leads, at-last, at-free, at-held, one-pass}
 use Rattle.blocks.specs.declared.Use.the-variants.{Free}
 use Rattle.blocks.specs.declared.Entry.{Entry}
-
--- ---- free entries from s on, i the next
-
-free-more : (t : List Entry) (s k : ℕ) → allFree t s k ≡ true → inUse Free t (s + k) ≡ true → allFree t s (suc k) ≡ true
-unfolding allFree
-free-more t s zero h u = rw (ap (inUse Free t) (sym (add-zero s)) ∙ u)
-free-more t s (suc k) h u =
-    let p = both (inUse Free t s) (allFree t (suc s) k) h in
-    rw (p .0) (free-more t (suc s) k (p .1) (ap (inUse Free t) (suc-add s k ∙ sym (add-suc s k)) ∙ u))
-
-pub free-next : (t : List Entry) (s i : ℕ) → s ≤ i → allFree t s (i - s) ≡ true → inUse Free t i ≡ true → allFree t s (i + 1 - s) ≡ true
-free-next t s i h q u =
-    let p : i + 1 - s ≡ suc (i - s) = omega arith in
-    let r : s + (i - s) ≡ i = omega arith in
-    ap (allFree t s) p ∙ free-more t s (i - s) q (ap (inUse Free t) r ∙ u)
-
-pub none-free : (t : List Entry) (s : ℕ) → allFree t s (s - s) ≡ true
-unfolding allFree
-none-free t s = let p : s - s ≡ 0 = omega arith in rw p
-
--- a held block stops every run over it
-pub held-between : (t : List Entry) (s n i : ℕ) → s ≤ i → i < s + n → inUse Free t i ≡ false → allFree t s n ≡ false
-unfolding allFree
-held-between t s zero i l m u = absurd (omega arith)
-held-between t s (suc n) i l m u =
-    ⊎-elim
-    (λ (q : s ≡ i). rw (ap (inUse Free t) q ∙ u))
-    (λ (q : s < i). rw (held-between t (suc s) n i q (omega arith) u) (and-false (inUse Free t s)))
-    (eq-or-lt-of-le l)
 
 -- ---- free entries counted, i the next of n
 
@@ -70,60 +41,46 @@ module _ {t : List Entry} {n free i : ℕ} (h : Counted t n free i) where
   unfolding freeFrom
   count-ends l = let p : n - i ≡ 0 = omega arith in sym (sym (h .rest) ∙ rw p (add-zero free))
 
--- ---- the lowest run, in one pass
+-- ---- the search for a run, i blocks looked at, the last `run` of them free
 
--- no start up to a held block i serves
-skip : (k f : ℕ) (t : List Entry) (s n l i : ℕ) → s + k ≡ i + 1 → i < s + n → inUse Free t i ≡ false → lowest (k + f) t s n l ≡ lowest f t (s + k) n l
-unfolding lowest
-skip zero f t s n l i e m u = rw (zero-add f, add-zero s)
-skip (suc k) f t s n l i e m u =
-    let r : s ≤ i = omega arith in
-    rw (suc-add k f, held-between t s n i r m u, and-false (leb (s + n) l), add-suc s k)
-    (skip k f t (suc s) n l i (omega arith) (omega arith) u ∙ ap (λ (j : ℕ). lowest f t j n l) (suc-add s k))
+-- what is left of it is the search from here on
+pub record Onward (t : List Entry) (c n run i : ℕ) : Type 0 where
+  pub answers : answer (searching c n) (uses t) ≡ answer (searchingFrom n (c - i) run i) (uses t)
+  pub looks : length (looked c t n) ≡ i + length (positionsRead (searchingFrom n (c - i) run i) (uses t))
 
-search-on : (t : List Entry) (n l s i : ℕ) → s ≤ i → i < l → i - s < n → inUse Free t i ≡ false → lowest (l - s) t s n l ≡ lowest (l - (i + 1)) t (i + 1) n l
-search-on t n l s i a b m u =
-    let p : l - s ≡ (i + 1 - s) + (l - (i + 1)) = omega arith in
-    let q : s + (i + 1 - s) ≡ i + 1 = omega arith in
-    ap (λ (f : ℕ). lowest f t s n l) p ∙ skip (i + 1 - s) (l - (i + 1)) t s n l i q (omega arith) u ∙ ap (λ (j : ℕ). lowest (l - (i + 1)) t j n l) q
+pub search-begins : (t : List Entry) (c n : ℕ) → Onward t c n 0 0
+search-begins t c n =
+    let p : c - 0 ≡ c = omega arith in
+    record { answers = rw p; looks = rw p (sym (zero-add (length (looked c t n)))) }
 
-search-hit : (t : List Entry) (n l s f : ℕ) → 0 < f → s + n ≤ l → allFree t s n ≡ true → lowest f t s n l ≡ foundAt s
-unfolding lowest
-search-hit t n l s zero p h u = absurd (omega arith)
-search-hit t n l s (suc f) p h u = rw (le-leb (s + n) l h, u)
+-- what it answers, and how many it has looked at, are those of the whole
+passed : (c : ℕ) (t : List Entry) (n : ℕ) (found : Search) (k : ℕ) → 1 ≤ n → answer (searching c n) (uses t) ≡ found → length (looked c t n) ≡ k → OnePass c t n found k
+passed c t n found k o a h = subst₂ (OnePass c t n) a h (one-pass t c n o)
 
-search-out : (f : ℕ) (t : List Entry) (s n l : ℕ) → l < s + n → lowest f t s n l ≡ nowhere
-unfolding lowest
-search-out zero t s n l h = refl
-search-out (suc f) t s n l h = rw (lt-leb (s + n) l h) (search-out f t (suc s) n l (omega arith))
+module _ {t : List Entry} {c n run i : ℕ} (h : Onward t c n run i) where
+  turn : {k : Reads Search} → i < c → Leads t n (c - suc i) run i k → (answer (searching c n) (uses t) ≡ answer k (uses t)) × (length (looked c t n) ≡ suc i + length (positionsRead k (uses t)))
+  turn {k} l w =
+      let p : c - i ≡ suc (c - suc i) = omega arith in
+      let q : length (positionsRead (searchingFrom n (c - i) run i) (uses t)) ≡ suc (length (positionsRead k (uses t))) = rw p (ap length (w .looks)) in
+      (h .answers ∙ rw p (w .answers), omega (arith, h .looks))
 
--- the search among a table's first l entries for n free ones: those from `start` to i are free, and no lower start serves
-pub record Searched (t : List Entry) (l n start i : ℕ) : Type 0 where
-  pub low : start ≤ i
-  pub high : i ≤ l
-  pub near : i - start ≤ n
-  pub free : allFree t start (i - start) ≡ true
-  pub rest : freeRun l t n ≡ lowest (l - start) t start n l
+  pub past-free : i < c → run + 1 < n → inUse Free t i ≡ true → Onward t c n (run + 1) (i + 1)
+  past-free l m u =
+      let w = turn l (at-free t n (c - suc i) run i u (λ e. omega arith)) in
+      record { answers = simp add-one (w .0); looks = simp add-one (w .1) }
 
-pub search-begins : (t : List Entry) (l n : ℕ) → Searched t l n 0 0
-unfolding freeRun
-search-begins t l n =
-    record { low = omega arith; high = omega arith; near = omega arith; free = none-free t 0; rest = (let p : l ≡ l - 0 = omega arith in ap (λ (m : ℕ). lowest m t 0 n l) p) }
+  pub past-held : i < c → inUse Free t i ≡ false → Onward t c n 0 (i + 1)
+  past-held l u =
+      let w = turn l (at-held t n (c - suc i) run i u) in
+      record { answers = simp add-one (w .0); looks = simp add-one (w .1) }
 
-module _ {t : List Entry} {l n start i : ℕ} (h : Searched t l n start i) where
-  pub past-free : i < l → i - start < n → inUse Free t i ≡ true → Searched t l n start (i + 1)
-  past-free b m u =
-      record { low = omega (arith, h .low); high = omega arith; near = omega (arith, h .low); free = free-next t start i (h .low) (h .free) u; rest = h .rest }
+  pub found-run : i < c → run + 1 ≡ n → inUse Free t i ≡ true → OnePass c t n (foundAt (i + 1 - n)) (i + 1)
+  found-run l e u =
+      let w = turn l (at-last t n (c - suc i) run i u (omega arith)) in
+      passed c t n (foundAt (i + 1 - n)) (i + 1) (omega arith) (simp add-one (w .0)) (omega (arith, w .1))
 
-  pub past-held : i < l → i - start < n → inUse Free t i ≡ false → Searched t l n (i + 1) (i + 1)
-  past-held b m u =
-      record { low = omega arith; high = omega arith; near = omega arith; free = none-free t (i + 1); rest = h .rest ∙ search-on t n l start i (h .low) b m u }
-
-  pub found-nowhere : i ≡ l → i - start < n → freeRun l t n ≡ nowhere
-  found-nowhere e m = h .rest ∙ search-out (l - start) t start n l (omega (arith, h .low))
-
-  pub found-run : 1 ≤ n → n ≤ i - start → (freeRun l t n ≡ foundAt start) × (start + n ≤ l)
-  found-run o m =
-      let p : i - start ≡ n = omega (arith, h .near) in
-      let q : start + n ≤ l = omega (arith, h .low, h .high) in
-      (h .rest ∙ search-hit t n l start (l - start) (omega arith) q (ap (allFree t start) (sym p) ∙ h .free), q)
+  pub found-nowhere : i ≡ c → 1 ≤ n → OnePass c t n nowhere i
+  unfolding searchingFrom
+  found-nowhere e o =
+      let p : c - i ≡ 0 = omega arith in
+      passed c t n nowhere i o (h .answers ∙ rw p) (h .looks ∙ rw p (add-zero i))

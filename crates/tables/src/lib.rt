@@ -5,6 +5,7 @@ ghost use mathlib.Core.Path.{_≡_};
 ghost use Prim.Native.Nat.{_+_, _≤_, _<_, _^_};
 ghost use lib.ListN.{length, replicate};
 ghost use Rattle.blocks.specs.Tables.{freeEntry, starts as startsRule, startsData, holdsLength, IsRun, allFree, freeBlocks, freed, taken, freeRun, searchOf, FoundBelow};
+ghost use Rattle.blocks.specs.OnePass.{OnePass};
 ghost use Rattle.blocks.specs.WellFormed.{blockKind, leading};
 ghost use Rattle.tables.specs.Compact.{bitsAt, Kept, heldAt, entryAt, useOf, stateOf, tableOf, IsMask, IsPut, Marked, Cleared, Changed};
 use blocks::Entry;
@@ -167,31 +168,54 @@ pub fn data_at(t: &[u8], base: usize, block_count: u16, block_size: u32, s: u32)
     }
 }
 
-// The lowest run of n free blocks among the first `block_count`. One pass: `run` free ones lie before block i, whose bit is that of m. The bit is
-// turned from block to block, which is quicker than moving the byte.
-pub fn lowest_run(t: &[u8], base: usize, block_count: u16, n: usize) -> Found
+// What a search found, and in how many turns: each turn looks at one block.
+pub struct Searched {
+    pub found: Found,
+    pub turns: usize,
+}
+
+// The search for the lowest run of n free blocks among the first `block_count`, in one pass. `run` free ones lie before block i, whose bit is
+// that of m. At a held block it goes on just behind it. The bit is turned from block to block, which is quicker than moving the byte.
+pub fn search(t: &[u8], base: usize, block_count: u16, n: usize) -> Searched
     requires { ⌜ («block_count» ≤ 256) × (1 ≤ n) × (base ≤ 1568) × (length (now t) ≡ 3136) ⌝ }
-    ensures { λ r. ⌜ (searchOf r ≡ freeRun «block_count» (tableOf (now (t .entry)) base) n) × FoundBelow r n «block_count» ⌝ }
+    ensures { λ r. ⌜ OnePass «block_count» (tableOf (now (t .entry)) base) n (searchOf (r .found)) (r .turns) ⌝ }
 {
     let end = block_count as usize;
     let mut m: u8 = 1;
     let mut run: usize = 0;
+    let mut turns: usize = 0;
     let mut i: usize = 0;
     while i < end {
         let held = t[base + i / 8] & m;
+        turns += 1;
         i += 1;
         if held == 0 {
             run += 1;
             if run == n {
                 let start = i - n;
-                return Found::At(start);
+                return Searched {
+                    found: Found::At(start),
+                    turns,
+                };
             }
         } else {
             run = 0;
         }
         m = (m << 1) | (m >> 7);
     }
-    Found::Nowhere
+    Searched {
+        found: Found::Nowhere,
+        turns,
+    }
+}
+
+// Where that run is. Who reserves has no use for the turns, and the compiler drops their count.
+pub fn lowest_run(t: &[u8], base: usize, block_count: u16, n: usize) -> Found
+    requires { ⌜ («block_count» ≤ 256) × (1 ≤ n) × (base ≤ 1568) × (length (now t) ≡ 3136) ⌝ }
+    ensures { λ r. ⌜ (searchOf r ≡ freeRun «block_count» (tableOf (now (t .entry)) base) n) × FoundBelow r n «block_count» ⌝ }
+{
+    let searched = search(t, base, block_count, n);
+    searched.found
 }
 
 // Whether n blocks from s on are free.

@@ -8,18 +8,22 @@ use Rattle.rounds.proofs.added.Reads as added-reads
 use Rattle.rounds.proofs.crowded.Reads as crowded-reads
 use Rattle.rounds.proofs.opened.Reads as opened-reads
 use Rattle.rounds.proofs.start_of.Reads as start-of-reads
+use Rattle.rounds.proofs.thin.Reads as thin-reads
 
 abbrev Inv-loop : tie.InvT-loop
-Inv-loop opening taken k rounds end₀ sum₀ i₀ end sum i = (i ≤ rounds) × (rounds < 4294967296)
+Inv-loop opening taken every k rounds end₀ sum₀ i₀ end sum i = (i ≤ rounds) × (rounds < 4294967296)
 
 abbrev μ-loop : tie.MeasureT-loop
-μ-loop opening taken k rounds end₀ sum₀ i₀ end sum i = rounds - i
+μ-loop opening taken every k rounds end₀ sum₀ i₀ end sum i = rounds - i
 
 opened-requires : tie.Need-opened-requires Inv-loop μ-loop
 opened-requires c κs = search needs
 
 crowded-requires : tie.Need-crowded-requires Inv-loop μ-loop
 crowded-requires c κs = search needs
+
+thin-requires : tie.Need-thin-requires Inv-loop μ-loop
+thin-requires c κs = search needs
 
 loop-holds : tie.Need-loop-holds Inv-loop μ-loop
 loop-holds c = search needs
@@ -59,6 +63,7 @@ petrelknob-rounds-reserve-spec =
     μ-loop
     opened-requires
     crowded-requires
+    thin-requires
     loop-holds
     reserve-requires
     start-of-requires

@@ -1,85 +1,14 @@
-use Prim.Native.Nat.{_+_, _-_, _%_, _^_, _≤_, _<_}
-use mathlib.Core.Logic.{⊎-elim}
-use mathlib.Core.Path.{_≡_, refl, sym}
-use native.Mathlib.Omega.{arith}
-use Rattle.tables.specs.Compact.{tableOf}
-use Rattle.tables.proofs.Loops.{Searched, search-begins, past-free, past-held, found-nowhere, found-run}
-use Rattle.tables.proofs.Bits.{bit-clear, bit-set, turn}
-use Rattle.tables.proofs.Entries.{even-free, odd-held}
+use Rattle.blocks.proofs.OnePass.{found-below}
 use borrow.Author.Needs.{needs}
 use Rattle.tables.proofs.lowest_run.Statement.{statement}
 use Rattle.tables.proofs.lowest_run.Tie as tie
+use Rattle.tables.proofs.search.Reads as search-reads
 
-abbrev Inv-loop : tie.InvT-loop
-Inv-loop t base count n end m₀ run₀ i₀ m run i = Searched (tableOf t base) count n (i - run) i × (m ≡ 2 ^ (i % 8)) × (run ≤ i) × (run < n) × (i ≤ count) × (count ≤ 256) × (base ≤ 1568)
+search-requires : tie.Need-search-requires
+search-requires c κs = search needs
 
-abbrev μ-loop : tie.MeasureT-loop
-μ-loop t base count n end m₀ run₀ i₀ m run i = count - i
-
-loop-holds : tie.Need-loop-holds Inv-loop μ-loop
-loop-holds c = (search-begins _ _ _, refl, search needs, search needs, search needs, search needs, search needs)
-
-add-held : tie.Need-add-held Inv-loop μ-loop
-add-held c = search needs
-
-shared-slice-read-held : tie.Need-shared-slice-read-held Inv-loop μ-loop
-shared-slice-read-held c = search needs
-
-add-i : tie.Need-add-i Inv-loop μ-loop
-add-i c = search needs
-
-add-run : tie.Need-add-run Inv-loop μ-loop
-add-run c = search needs
-
-sub-start : tie.Need-sub-start Inv-loop μ-loop
-sub-start c = search needs
-
-returns : tie.Need-returns Inv-loop μ-loop
-returns c =
-    let l = c .before .before .before .before .loop in
-    let b = c .before .before .before .loop-test .taken in
-    let s = past-free (l .inv .0) b (omega (arith, l .inv .2, l .inv .3)) (even-free _ _ (l .i) _ (omega (arith, b, l .inv .5)) refl (bit-clear _ _ (l .i % 8) (l .inv .1) (c .before .if1 .taken))) in
-    let r = found-run s (c .before .before .before .before .before .pre .1) (omega (arith, l .inv .2, l .inv .3, c .if2 .taken)) in
-    let p : l .i - l .run ≡ l .i + 1 - c .before .before .before .before .before .args .n = omega (arith, l .inv .2, l .inv .3, c .if2 .taken) in
-    rw (sym p) (sym (r .0), r .1)
-
-loop-less : tie.Need-loop-less Inv-loop μ-loop
-loop-less c = search needs
-
-loop-again : tie.Need-loop-again Inv-loop μ-loop
-loop-again c =
-    let l = c .before .before .before .loop in
-    let b = c .before .before .loop-test .taken in
-    let m : l .i < 256 = omega (arith, b, l .inv .5) in
-    let q : l .i - (l .i - l .run) < c .before .before .before .before .args .n = omega (arith, l .inv .2, l .inv .3) in
-    let u = turn (l .i) (l .m) (l .inv .1) in
-    ⊎-elim
-    (λ w.
-    let p : l .i + 1 - c .if1 .run ≡ l .i - l .run = omega (arith, w .2) in
-    (rw p (past-free (l .inv .0) b q (even-free _ _ (l .i) _ m refl (bit-clear _ _ (l .i % 8) (l .inv .1) (w .0 .taken)))), u, omega (arith, w .2, l .inv .2), omega (arith, w .2, l .inv .3, w .1 .left), search needs, search needs, search needs))
-    (λ w.
-    let p : l .i + 1 - c .if1 .run ≡ l .i + 1 = omega (arith, w .1) in
-    (rw p (past-held (l .inv .0) b q (odd-held _ _ (l .i) _ m refl (bit-set _ _ (l .i % 8) (l .inv .1) (w .0 .left)))), u, omega (arith, w .1), omega (arith, w .1, l .inv .3), search needs, search needs, search needs))
-    (c .if1 .came)
-
-returns-2 : tie.Need-returns-2 Inv-loop μ-loop
-returns-2 c =
-    let l = c .before .loop in
-    (sym (found-nowhere (l .inv .0) (omega (arith, l .inv .4, c .loop-test .left)) (omega (arith, l .inv .2, l .inv .3))), tt)
+returns : tie.Need-returns
+returns c = let s = c .search .ensures in (s .lowest, found-below (c .search .result .found) _ _ _ _ s)
 
 pub lowest-run-spec : {M : Type 1} → statement M
-lowest-run-spec =
-    tie.close
-    (tie.spec
-    Inv-loop
-    μ-loop
-    loop-holds
-    add-held
-    shared-slice-read-held
-    add-i
-    add-run
-    sub-start
-    returns
-    loop-less
-    loop-again
-    returns-2)
+lowest-run-spec = tie.close (tie.spec search-requires returns)
