@@ -14,6 +14,7 @@ FILE =
 NUMBERS =
 panel = target/staticlib/libpanel.a
 script = target/staticlib/libscript.a
+search = target/staticlib/libsearch.a
 rounds = target/staticlib/librounds.a
 compared = target/second/release/second
 shown = layout ring unit sheets
@@ -68,7 +69,7 @@ examples-test: $(examples:%=target/examples/%) ## the examples for C, and what t
 packets: target/bench/packets ## four million packets from process to process, each compared
 	@target/bench/packets
 
-second: $(panel) $(script) ## the second program, linked with the proved libraries: target/second/release/second
+second: $(panel) $(script) $(search) ## the second program, linked with the proved libraries: target/second/release/second
 	@cargo build --release --offline --quiet --manifest-path second/Cargo.toml --target-dir target/second
 
 soak: second ## random traffic against the second program for MINUTES=n (10), from SEED=n on (the clock)

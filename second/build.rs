@@ -8,8 +8,8 @@ const FOLDER_VARIABLE: &str = "PETRELKNOB_LIB";
 const DEFAULT_FOLDER: &str = "../target/staticlib";
 
 /// Layout, ring, units and sheets as the panel program reaches them; the call
-/// script.
-const LIBRARIES: [&str; 2] = ["panel", "script"];
+/// script; the search for free blocks.
+const LIBRARIES: [&str; 3] = ["panel", "script", "search"];
 
 fn main() {
     println!("cargo:rerun-if-env-changed={FOLDER_VARIABLE}");

@@ -13,7 +13,7 @@ use std::process::ExitCode;
 use std::time::Duration;
 
 use compare::traffic::{self, in_script_main};
-use compare::{layout, looking, ring, sheet, unit, Report, Settings};
+use compare::{layout, looking, ring, search, sheet, unit, Report, Settings};
 use link::layout::LARGEST_REGION;
 use link::script::ROW_BYTES;
 use options::{parse, Bounds, Task};
@@ -21,12 +21,15 @@ use options::{parse, Bounds, Task};
 type Comparison = fn(&Settings, &mut Report);
 
 /// The comparisons there are, by the word that asks for one alone.
-const COMPARISONS: [(&str, Comparison); 7] = [
+const COMPARISONS: [(&str, Comparison); 8] = [
     ("layout", layout::run),
     ("ring", ring::run),
     ("unit", |settings, report| unit::PLAN.run(settings, report)),
     ("sheet", |settings, report| {
         sheet::PLAN.run(settings, report)
+    }),
+    ("search", |settings, report| {
+        search::PLAN.run(settings, report)
     }),
     ("end", traffic::run),
     ("look", looking::run),
@@ -34,7 +37,7 @@ const COMPARISONS: [(&str, Comparison); 7] = [
 ];
 
 const USAGE: &str = "\
-usage: second [layout | ring | unit | sheet | end | look | faults]... [--seed N] [--cases N] [--calls N] [--fault NAME]
+usage: second [layout | ring | unit | sheet | search | end | look | faults]... [--seed N] [--cases N] [--calls N] [--fault NAME]
        second soak --minutes N [--seed N] [--fault NAME]
        second script FILE [--rows N] [--fault NAME]
        second region FILE [--begin N] [--end N] [--local-blocks N] [--remote-blocks N] [--alignment N]
@@ -43,17 +46,18 @@ Without a word all comparisons run:
   layout, ring  with the proved functions of the panel
   unit          plain units, with the proved functions of the panel
   sheet         values picked out of two sheets, with the proved function of the panel
+  search        the search for free blocks and its turns, with the proved one of the tables
   end           random traffic: call scripts, run by both sides
   look          what script and region print
-  faults        plants faults in the second implementation; traffic, unit and sheet must find them
+  faults        plants faults in the second implementation; traffic, unit, sheet and search must find them
 soak            traffic with one seed after the other, until the time is over
 script          runs one call script with the slices of script_main and shows it in words
 region          shows a dump of one region, its bytes from raw begin to raw end, in words
 
 --seed N        decides all random inputs (1; of soak, the clock)
---cases N       random cases of layout, of ring, of unit and of sheet, at least 1
+--cases N       random cases of layout, of ring, of unit and of sheet, at least 1; of search a third of them
 --calls N       calls of the traffic, at least 1
---fault NAME    traffic, units and sheets against the second implementation itself with this
+--fault NAME    traffic, units, sheets and searches against the second implementation itself with this
                 fault, as listed by faults, to see what a failure looks like
 --rows N        space for so many rows (for all)
 --begin N       the region's raw begin (0x20070000)

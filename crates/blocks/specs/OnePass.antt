@@ -31,12 +31,13 @@ searching c n = searchingFrom n c 0 0
 abbrev pub looked : ℕ → List Entry → ℕ → List ℕ
 looked c t n = positionsRead (searching c n) (uses t)
 
--- What the search of a table's first c blocks for n free ones found, and in how many turns. It is the lowest run; each block from 0 on is looked
--- at once, in order, as many as there are turns; these end with the run's last block, or with block c − 1, and are no more than c.
+-- the turns to the last block of the run that is found, or to the last of all
 abbrev pub turnsTo : ℕ → ℕ → Search → ℕ
 turnsTo c n nowhere = c
 turnsTo c n (foundAt s) = s + n
 
+-- What a search of a table's first c blocks for n free ones found, and in how many turns: the lowest run. Each block from 0 on is looked at once,
+-- in order, as many as there are turns. They end where nothing more has to be looked at, and are no more than c.
 pub record OnePass (c : ℕ) (t : List Entry) (n : ℕ) (found : Search) (turns : ℕ) : Type 0 where
   pub lowest : found ≡ freeRun c t n
   pub searched : found ≡ answer (searching c n) (uses t)

@@ -74,13 +74,14 @@ module _ {t : List Entry} {c n run i : ℕ} (h : Onward t c n run i) where
       let w = turn l (at-held t n (c - suc i) run i u) in
       record { answers = simp add-one (w .0); looks = simp add-one (w .1) }
 
-  pub found-run : i < c → run + 1 ≡ n → inUse Free t i ≡ true → OnePass c t n (foundAt (i + 1 - n)) (i + 1)
-  found-run l e u =
+  -- k turns were counted
+  pub found-run : {k : ℕ} → i < c → run + 1 ≡ n → inUse Free t i ≡ true → k ≡ i + 1 → OnePass c t n (foundAt (i + 1 - n)) k
+  found-run {k} l e u q =
       let w = turn l (at-last t n (c - suc i) run i u (omega arith)) in
-      passed c t n (foundAt (i + 1 - n)) (i + 1) (omega arith) (simp add-one (w .0)) (omega (arith, w .1))
+      passed c t n (foundAt (i + 1 - n)) k (omega arith) (simp add-one (w .0)) (omega (arith, w .1))
 
-  pub found-nowhere : i ≡ c → 1 ≤ n → OnePass c t n nowhere i
+  pub found-nowhere : {k : ℕ} → i ≡ c → 1 ≤ n → k ≡ i → OnePass c t n nowhere k
   unfolding searchingFrom
-  found-nowhere e o =
+  found-nowhere {k} e o q =
       let p : c - i ≡ 0 = omega arith in
-      passed c t n nowhere i o (h .answers ∙ rw p) (h .looks ∙ rw p (add-zero i))
+      passed c t n nowhere k o (h .answers ∙ rw p) (h .looks ∙ rw p (add-zero i) ∙ sym q)

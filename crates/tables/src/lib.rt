@@ -180,12 +180,12 @@ pub fn search(t: &[u8], base: usize, block_count: u16, n: usize) -> Searched
     requires { ⌜ («block_count» ≤ 256) × (1 ≤ n) × (base ≤ 1568) × (length (now t) ≡ 3136) ⌝ }
     ensures { λ r. ⌜ OnePass «block_count» (tableOf (now (t .entry)) base) n (searchOf (r .found)) (r .turns) ⌝ }
 {
-    let end = block_count as usize;
+    let all = block_count as usize;
     let mut m: u8 = 1;
     let mut run: usize = 0;
     let mut turns: usize = 0;
     let mut i: usize = 0;
-    while i < end {
+    while i < all {
         let held = t[base + i / 8] & m;
         turns += 1;
         i += 1;

@@ -8,6 +8,7 @@ mod proved;
 mod random;
 mod report;
 pub mod ring;
+pub mod search;
 pub mod sheet;
 mod tally;
 pub mod traffic;
@@ -22,10 +23,10 @@ pub struct Settings {
     /// Decides all random inputs.
     pub seed: u64,
     /// Random inputs of the layout, of the ring, of the unit and of the sheet
-    /// comparison, divided among their mixtures.
+    /// comparison, divided among their mixtures; the search has a third of them.
     pub cases: u64,
     /// Calls of the random traffic, divided among its kinds.
     pub calls: u64,
-    /// What the traffic, the units and the sheets are compared with.
+    /// What the traffic, the units, the sheets and the searches are compared with.
     pub opponent: Opponent,
 }

@@ -1,4 +1,4 @@
-use Prim.Native.Nat.{_+_, _-_, _%_, _^_, _≤_, _<_}
+use Prim.Native.Nat.{_-_, _%_, _^_, _≤_, _<_}
 use mathlib.Core.Logic.{⊎-elim}
 use mathlib.Core.Path.{_≡_, refl}
 use native.Mathlib.Omega.{arith}
@@ -11,10 +11,10 @@ use Rattle.tables.proofs.search.Statement.{statement}
 use Rattle.tables.proofs.search.Tie as tie
 
 abbrev Inv-loop : tie.InvT-loop
-Inv-loop t base count n end m₀ run₀ turns₀ i₀ m run turns i = Onward (tableOf t base) count n run i × (m ≡ 2 ^ (i % 8)) × (turns ≡ i) × (run ≤ i) × (run < n) × (i ≤ count) × (count ≤ 256) × (base ≤ 1568)
+Inv-loop t base count n all m₀ run₀ turns₀ i₀ m run turns i = Onward (tableOf t base) count n run i × (m ≡ 2 ^ (i % 8)) × (turns ≡ i) × (run ≤ i) × (run < n) × (i ≤ count) × (count ≤ 256) × (base ≤ 1568)
 
 abbrev μ-loop : tie.MeasureT-loop
-μ-loop t base count n end m₀ run₀ turns₀ i₀ m run turns i = count - i
+μ-loop t base count n all m₀ run₀ turns₀ i₀ m run turns i = count - i
 
 loop-holds : tie.Need-loop-holds Inv-loop μ-loop
 loop-holds c = (search-begins _ _ _, refl, search needs, search needs, search needs, search needs, search needs, search needs)
@@ -42,8 +42,7 @@ returns c =
     let l = c .before .before .before .before .loop in
     let b = c .before .before .before .loop-test .taken in
     let m : l .i < 256 = omega (arith, b, l .inv .6) in
-    let e : l .turns + 1 ≡ l .i + 1 = omega (arith, l .inv .2) in
-    rw e (found-run (l .inv .0) b (c .if2 .taken) (even-free _ _ (l .i) _ m refl (bit-clear _ _ (l .i % 8) (l .inv .1) (c .before .if1 .taken))))
+    found-run (l .inv .0) b (c .if2 .taken) (even-free _ _ (l .i) _ m refl (bit-clear _ _ (l .i % 8) (l .inv .1) (c .before .if1 .taken))) (omega (arith, l .inv .2))
 
 loop-less : tie.Need-loop-less Inv-loop μ-loop
 loop-less c = search needs
@@ -62,7 +61,7 @@ loop-again c =
 returns-2 : tie.Need-returns-2 Inv-loop μ-loop
 returns-2 c =
     let l = c .before .loop in
-    rw (l .inv .2) (found-nowhere (l .inv .0) (omega (arith, l .inv .5, c .loop-test .left)) (c .before .before .pre .1))
+    found-nowhere (l .inv .0) (omega (arith, l .inv .5, c .loop-test .left)) (c .before .before .pre .1) (l .inv .2)
 
 pub search-spec : {M : Type 1} → statement M
 search-spec =

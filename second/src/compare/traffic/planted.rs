@@ -1,13 +1,13 @@
 //! Plants faults in the second implementation and sees that the traffic finds
-//! them, the unit comparison those of units, and the sheet comparison those of
-//! sheets.
+//! them, the unit comparison those of units, the sheet comparison those of
+//! sheets, and the search comparison those of searches.
 
 use super::case::Case;
 use super::shrink::shortest;
 use super::{honest, newer_partner, Batch, Source};
 use crate::compare::random::Random;
 use crate::compare::report::{Group, Report};
-use crate::compare::{sheet, unit, Opponent, Settings};
+use crate::compare::{search, sheet, unit, Opponent, Settings};
 use crate::link::fault::{self, Fault};
 
 /// Faults that make changes of a newer partner matter.
@@ -46,6 +46,9 @@ pub fn run(settings: &Settings, report: &mut Report) {
     });
     report.group("faults: the sheet comparison finds every one", |group| {
         sheet::PLAN.find_all(settings, group);
+    });
+    report.group("faults: the search comparison finds every one", |group| {
+        search::PLAN.find_all(settings, group);
     });
     report.group("faults: a newer partner brings them out", |group| {
         for fault in NEWER_FAULTS {

@@ -5,8 +5,10 @@
 #[macro_use]
 mod ends;
 #[macro_use]
+mod searches;
+#[macro_use]
 mod sheets;
 #[macro_use]
 mod units;
 
-ends! { units sheets faults }
+ends! { units sheets searches faults }
