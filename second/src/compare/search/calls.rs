@@ -129,8 +129,8 @@ impl Tallies {
             Some(_) => &mut self.later,
         };
         *which += 1;
-        for (occurrences, _) in self.counts.iter_mut().zip(COUNTS).filter(|(_, c)| *c == all) {
-            *occurrences += 1;
+        if let Some(at) = COUNTS.iter().position(|&known| known == all) {
+            self.counts[at] += 1;
         }
     }
 }
