@@ -212,7 +212,7 @@ static void compare(const struct kind *kind, const char *blocks, const struct sc
             exit(1);
         }
     }
-    printf("  %-26s %-20s %8.1f %8.1f %8.1f\n", kind->what, blocks, a / kind->calls, b / kind->calls, b / a);
+    printf("  %-26s %-23s %8.1f %8.1f %8.1f\n", kind->what, blocks, a / kind->calls, b / kind->calls, b / a);
 }
 
 static void compare_in(uint32_t length, uint32_t tx_blocks, uint32_t rx_blocks)
@@ -239,7 +239,7 @@ static void compare_short(struct scene scene, const struct plain_end *end, uint3
     scene.taken = end->tx.block_count;
     scene.every = asked;
     scene.k = asked * end->tx.block_size - 4;
-    snprintf(blocks, sizeof blocks, "%u, of runs of %u", (unsigned)asked, (unsigned)(asked - 1));
+    snprintf(blocks, sizeof blocks, "%u blocks, runs of %u", (unsigned)asked, (unsigned)(asked - 1));
     compare(&reserves, blocks, &scene);
 }
 
@@ -273,7 +273,7 @@ int main(int argc, char **argv)
 {
     if (argc == 4)
         return run_one(argv[1], argv[2], argv[3]);
-    printf("nanoseconds for a call                              plain C   proved    ratio\n");
+    printf("nanoseconds for a call                                 plain C   proved    ratio\n");
     compare_in(2048, 16, 32);
     compare_in(65536, 256, 256);
     compare_in(LARGEST, 16, 16);

@@ -7,7 +7,7 @@
 #include <stddef.h>
 #include <stdint.h>
 
-/* Reserves k bytes and drops them. Of the first `taken` blocks each `every`-th is reserved before, where `every` is not 0; else all are. */
+/* Reserves k bytes and drops them. Of the first `taken` blocks each `every`-th is reserved before, or all where `every` is 0. */
 uint32_t petrelknob_rounds_reserve(const uint32_t *opening, uint32_t taken, uint32_t every, uint32_t k, uint32_t rounds);
 
 /* Reserves k bytes, sends them, and has them released. */

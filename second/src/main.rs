@@ -55,7 +55,7 @@ script          runs one call script with the slices of script_main and shows it
 region          shows a dump of one region, its bytes from raw begin to raw end, in words
 
 --seed N        decides all random inputs (1; of soak, the clock)
---cases N       random cases of layout, of ring, of unit and of sheet, at least 1; of search a third of them
+--cases N       random cases of layout, of ring, of unit and of sheet, at least 1; search makes about a third as many
 --calls N       calls of the traffic, at least 1
 --fault NAME    traffic, units, sheets and searches against the second implementation itself with this
                 fault, as listed by faults, to see what a failure looks like

@@ -1,11 +1,10 @@
 -- The search for a run, turn by turn: it finds what the rule says, looks at each block once and in order, and at no more than there are.
 use Prim.Native.Nat.{ℕ, zero, suc, _+_, _-_, _≤_, _<_}
 use mathlib.Core.Bool.{Bool, true, false}
-use mathlib.Core.Logic.{⊎-elim}
 use mathlib.Core.Path.{_≡_, refl, sym, ap, _∙_}
 use mathlib.Core.List.{List, [], _∷_}
 use native.Mathlib.Omega.{arith}
-use native.Mathlib.Nat.{add-suc, suc-add, add-zero, zero-add, eq-or-lt-of-le}
+use native.Mathlib.Nat.{add-suc, suc-add, add-zero, zero-add}
 use native.Mathlib.Numerals.{add-one}
 use lib.Dec.{leb, eqb}
 use lib.ListN.{getD, length}
@@ -13,44 +12,16 @@ use borrow.Author.Tests.{le-leb, lt-leb, eqb-true, eqb-false, eq-eqb, ne-eqb}
 use Rattle.wire.specs.Choice.{pick}
 use Rattle.wire.specs.Bytes.{straight, positions}
 use Rattle.wire.specs.Reads.{Reads, gives, answer, positionsRead}
-use Rattle.wire.proofs.Choices.{both, and-false}
+use Rattle.wire.proofs.Choices.{and-false}
 use Rattle.wire.proofs.Positions.{positions-on}
 use Rattle.blocks.specs.Search.{Search, nowhere, foundAt}
 use Rattle.blocks.specs.Tables.{useNumber, entry, inUse, allFree, lowest, freeRun, searchOf, FoundBelow}
 use Rattle.blocks.specs.OnePass.{uses, searchingFrom, searching, looked, turnsTo, OnePass}
+use Rattle.blocks.proofs.AllFree.{free-next, none-free, held-between}
 use Rattle.blocks.specs.declared.Use.the-variants.{Free}
 use Rattle.blocks.specs.declared.Entry.{Entry}
 use Rattle.blocks.specs.declared.Found.{Found}
 use Rattle.blocks.specs.declared.Found.the-variants.{Nowhere, At}
-
--- ---- free entries from s on, i the next
-
-free-more : (t : List Entry) (s k : ℕ) → allFree t s k ≡ true → inUse Free t (s + k) ≡ true → allFree t s (suc k) ≡ true
-unfolding allFree
-free-more t s zero h u = rw (ap (inUse Free t) (sym (add-zero s)) ∙ u)
-free-more t s (suc k) h u =
-    let p = both (inUse Free t s) (allFree t (suc s) k) h in
-    rw (p .0) (free-more t (suc s) k (p .1) (ap (inUse Free t) (suc-add s k ∙ sym (add-suc s k)) ∙ u))
-
-pub free-next : (t : List Entry) (s i : ℕ) → s ≤ i → allFree t s (i - s) ≡ true → inUse Free t i ≡ true → allFree t s (i + 1 - s) ≡ true
-free-next t s i h q u =
-    let p : i + 1 - s ≡ suc (i - s) = omega arith in
-    let r : s + (i - s) ≡ i = omega arith in
-    ap (allFree t s) p ∙ free-more t s (i - s) q (ap (inUse Free t) r ∙ u)
-
-pub none-free : (t : List Entry) (s : ℕ) → allFree t s (s - s) ≡ true
-unfolding allFree
-none-free t s = let p : s - s ≡ 0 = omega arith in rw p
-
--- a held block stops every run over it
-pub held-between : (t : List Entry) (s n i : ℕ) → s ≤ i → i < s + n → inUse Free t i ≡ false → allFree t s n ≡ false
-unfolding allFree
-held-between t s zero i l m u = absurd (omega arith)
-held-between t s (suc n) i l m u =
-    ⊎-elim
-    (λ (q : s ≡ i). rw (ap (inUse Free t) q ∙ u))
-    (λ (q : s < i). rw (held-between t (suc s) n i q (omega arith) u) (and-false (inUse Free t s)))
-    (eq-or-lt-of-le l)
 
 -- ---- the lowest run, by the starts that no longer serve
 
@@ -80,32 +51,32 @@ search-out zero t s n l h = refl
 search-out (suc f) t s n l h = rw (lt-leb (s + n) l h) (search-out f t (suc s) n l (omega arith))
 
 -- the search among a table's first l entries for n free ones: those from `start` to i are free, and no lower start serves
-record Searched (t : List Entry) (l n start i : ℕ) : Type 0 where
+record NoLower (t : List Entry) (l n start i : ℕ) : Type 0 where
   low : start ≤ i
   high : i ≤ l
   near : i - start ≤ n
   free : allFree t start (i - start) ≡ true
   rest : freeRun l t n ≡ lowest (l - start) t start n l
 
-search-begins : (t : List Entry) (l n : ℕ) → Searched t l n 0 0
+lower-begins : (t : List Entry) (l n : ℕ) → NoLower t l n 0 0
 unfolding freeRun
-search-begins t l n =
+lower-begins t l n =
     record { low = omega arith; high = omega arith; near = omega arith; free = none-free t 0; rest = (let p : l ≡ l - 0 = omega arith in ap (λ (m : ℕ). lowest m t 0 n l) p) }
 
-module _ {t : List Entry} {l n start i : ℕ} (h : Searched t l n start i) where
-  past-free : i < l → i - start < n → inUse Free t i ≡ true → Searched t l n start (i + 1)
-  past-free b m u =
+module _ {t : List Entry} {l n start i : ℕ} (h : NoLower t l n start i) where
+  lower-free : i < l → i - start < n → inUse Free t i ≡ true → NoLower t l n start (i + 1)
+  lower-free b m u =
       record { low = omega (arith, h .low); high = omega arith; near = omega (arith, h .low); free = free-next t start i (h .low) (h .free) u; rest = h .rest }
 
-  past-held : i < l → i - start < n → inUse Free t i ≡ false → Searched t l n (i + 1) (i + 1)
-  past-held b m u =
+  lower-held : i < l → i - start < n → inUse Free t i ≡ false → NoLower t l n (i + 1) (i + 1)
+  lower-held b m u =
       record { low = omega arith; high = omega arith; near = omega arith; free = none-free t (i + 1); rest = h .rest ∙ search-on t n l start i (h .low) b m u }
 
-  found-nowhere : i ≡ l → i - start < n → freeRun l t n ≡ nowhere
-  found-nowhere e m = h .rest ∙ search-out (l - start) t start n l (omega (arith, h .low))
+  lower-nowhere : i ≡ l → i - start < n → freeRun l t n ≡ nowhere
+  lower-nowhere e m = h .rest ∙ search-out (l - start) t start n l (omega (arith, h .low))
 
-  found-run : 1 ≤ n → n ≤ i - start → freeRun l t n ≡ foundAt start
-  found-run o m =
+  lower-run : 1 ≤ n → n ≤ i - start → freeRun l t n ≡ foundAt start
+  lower-run o m =
       let p : i - start ≡ n = omega (arith, h .near) in
       let q : start + n ≤ l = omega (arith, h .low, h .high) in
       h .rest ∙ search-hit t n l start (l - start) (omega arith) q (ap (allFree t start) (sym p) ∙ h .free)
@@ -170,18 +141,18 @@ sees t n run i = go (inUse Free t i) (eqb (suc run) n) refl refl
 
 module _ (t : List Entry) (c n : ℕ) where
   -- it finds what the rule says. The free blocks before i begin at s
-  rule-on : (f run i s : ℕ) → i < c → s + run ≡ i → run < n → Searched t c n s i → Sees t n run i →
-      (suc run < n → Searched t c n s (suc i) → answer (searchingFrom n f (suc run) (suc i)) (uses t) ≡ freeRun c t n) →
-      (Searched t c n (suc i) (suc i) → answer (searchingFrom n f 0 (suc i)) (uses t) ≡ freeRun c t n) → answer (searchingFrom n (suc f) run i) (uses t) ≡ freeRun c t n
+  rule-on : (f run i s : ℕ) → i < c → s + run ≡ i → run < n → NoLower t c n s i → Sees t n run i →
+      (suc run < n → NoLower t c n s (suc i) → answer (searchingFrom n f (suc run) (suc i)) (uses t) ≡ freeRun c t n) →
+      (NoLower t c n (suc i) (suc i) → answer (searchingFrom n f 0 (suc i)) (uses t) ≡ freeRun c t n) → answer (searchingFrom n (suc f) run i) (uses t) ≡ freeRun c t n
   rule-on f run i s l a m h (last u e) g k =
       let p : suc i - n ≡ s = omega arith in
-      at-last t n f run i u e .answers ∙ ap foundAt p ∙ sym (found-run (past-free h l (omega arith) u) (omega arith) (omega arith))
-  rule-on f run i s l a m h (free u e) g k = at-free t n f run i u e .answers ∙ g (omega arith) (rw add-one at (past-free h l (omega arith) u))
-  rule-on f run i s l a m h (held u) g k = at-held t n f run i u .answers ∙ k (rw add-one at (past-held h l (omega arith) u))
+      at-last t n f run i u e .answers ∙ ap foundAt p ∙ sym (lower-run (lower-free h l (omega arith) u) (omega arith) (omega arith))
+  rule-on f run i s l a m h (free u e) g k = at-free t n f run i u e .answers ∙ g (omega arith) (rw add-one at (lower-free h l (omega arith) u))
+  rule-on f run i s l a m h (held u) g k = at-held t n f run i u .answers ∙ k (rw add-one at (lower-held h l (omega arith) u))
 
-  by-rule : (f run i s : ℕ) → i + f ≡ c → s + run ≡ i → run < n → Searched t c n s i → answer (searchingFrom n f run i) (uses t) ≡ freeRun c t n
+  by-rule : (f run i s : ℕ) → i + f ≡ c → s + run ≡ i → run < n → NoLower t c n s i → answer (searchingFrom n f run i) (uses t) ≡ freeRun c t n
   unfolding searchingFrom
-  by-rule zero run i s e a m h = sym (found-nowhere h (omega arith) (omega arith))
+  by-rule zero run i s e a m h = sym (lower-nowhere h (omega arith) (omega arith))
   by-rule (suc f) run i s e a m h =
       rule-on f run i s (omega arith) a m h (sees t n run i) (λ l w. by-rule f (suc run) (suc i) s (omega arith) (omega arith) l w) (λ w. by-rule f 0 (suc i) (suc i) (omega arith) (omega arith) (omega arith) w)
 
@@ -218,7 +189,7 @@ module _ (t : List Entry) (c n : ℕ) where
   one-pass o =
       let w = turns c 0 0 (zero-add c) (omega arith) o in
       record {
-        lowest = by-rule c 0 0 0 (zero-add c) (omega arith) o (search-begins t c n);
+        lowest = by-rule c 0 0 0 (zero-add c) (omega arith) o (lower-begins t c n);
         searched = refl;
         in-order = w .in-order;
         ends = sym (zero-add (length (looked c t n))) ∙ w .ends;

@@ -116,7 +116,7 @@ fn bound(fresh: End, tx: &mut [u8], rx: &[u8]) -> End {
     end
 }
 
-// Reserves k bytes and drops them, in a table whose first `taken` blocks are free, but for each `every`-th, which is reserved.
+// Reserves k bytes and drops them. Of the first `taken` blocks each `every`-th is reserved before, or all where `every` is 0.
 #[no_mangle]
 pub extern "C" fn petrelknob_rounds_reserve(
     opening: &[u32; 7],

@@ -172,22 +172,22 @@ module _ (b m k : ℕ) (h : m ≡ 2 ^ k) where
       go (suc zero) l e = refl
       go (suc (suc x)) l e = absurd (omega arith)
 
--- the code's turn, for each of the eight
-abbrev turned : ℕ → ℕ
-turned m = bitOr (m * 2 ^ 1 % 2 ^ 8) (m / 2 ^ 7)
+-- the code's rotation, for each of the eight
+abbrev rotated : ℕ → ℕ
+rotated m = bitOr (m * 2 ^ 1 % 2 ^ 8) (m / 2 ^ 7)
 
-turns : ℕ → Bool
-turns k = eqb (turned (2 ^ k)) (2 ^ ((k + 1) % 8))
+rotates : ℕ → Bool
+rotates k = eqb (rotated (2 ^ k)) (2 ^ ((k + 1) % 8))
 
-all-turn : every 8 turns ≡ true
-unfolding every turns
-all-turn = refl
+all-rotate : every 8 rotates ≡ true
+unfolding every rotates
+all-rotate = refl
 
-pub turn : (i m : ℕ) → m ≡ 2 ^ (i % 8) → turned m ≡ 2 ^ ((i + 1) % 8)
-unfolding turns
-turn i m h =
+pub rotate : (i m : ℕ) → m ≡ 2 ^ (i % 8) → rotated m ≡ 2 ^ ((i + 1) % 8)
+unfolding rotates
+rotate i m h =
     let p : (i % 8 + 1) % 8 ≡ (i + 1) % 8 = omega arith in
-    ap turned h ∙ eqb-true _ _ (each 8 turns all-turn (i % 8) (omega arith)) ∙ ap (λ (k : ℕ). 2 ^ k) p
+    ap rotated h ∙ eqb-true _ _ (each 8 rotates all-rotate (i % 8) (omega arith)) ∙ ap (λ (k : ℕ). 2 ^ k) p
 
 -- ---- marking from s on, i the next
 

@@ -175,7 +175,7 @@ pub struct Searched {
 }
 
 // The search for the lowest run of n free blocks among the first `block_count`, in one pass. `run` free ones lie before block i, whose bit is
-// that of m. At a held block it goes on just behind it. The bit is turned from block to block, which is quicker than moving the byte.
+// that of m. At a held block it goes on just behind it. The bit is rotated from block to block, which is quicker than moving the byte.
 pub fn search(t: &[u8], base: usize, block_count: u16, n: usize) -> Searched
     requires { ⌜ («block_count» ≤ 256) × (1 ≤ n) × (base ≤ 1568) × (length (now t) ≡ 3136) ⌝ }
     ensures { λ r. ⌜ OnePass «block_count» (tableOf (now (t .entry)) base) n (searchOf (r .found)) (r .turns) ⌝ }
@@ -209,7 +209,7 @@ pub fn search(t: &[u8], base: usize, block_count: u16, n: usize) -> Searched
     }
 }
 
-// Where that run is. Who reserves has no use for the turns, and the compiler drops their count.
+// The run alone: a reserve has no use for the turns, and the compiler drops their count.
 pub fn lowest_run(t: &[u8], base: usize, block_count: u16, n: usize) -> Found
     requires { ⌜ («block_count» ≤ 256) × (1 ≤ n) × (base ≤ 1568) × (length (now t) ≡ 3136) ⌝ }
     ensures { λ r. ⌜ (searchOf r ≡ freeRun «block_count» (tableOf (now (t .entry)) base) n) × FoundBelow r n «block_count» ⌝ }

@@ -23,7 +23,8 @@ pub struct Settings {
     /// Decides all random inputs.
     pub seed: u64,
     /// Random inputs of the layout, of the ring, of the unit and of the sheet
-    /// comparison, divided among their mixtures; the search has a third of them.
+    /// comparison, divided among their mixtures. The search comparison makes
+    /// about a third as many.
     pub cases: u64,
     /// Calls of the random traffic, divided among its kinds.
     pub calls: u64,

@@ -2,12 +2,10 @@
 //! ends.
 
 use crate::link::fault::{planted, unless, Fault};
+use crate::link::layout::MOST_BLOCKS;
 
-/// The bytes of both tables; the transmit table's bits are the first of them.
+/// The bytes of both tables, the transmit table first. Each begins with its bits.
 pub const TABLES: usize = 3136;
-
-/// The most blocks of a table.
-pub const MOST_BLOCKS: u32 = 256;
 
 /// What a search came to.
 #[derive(Clone, PartialEq, Eq, Debug)]
@@ -22,19 +20,25 @@ impl Searched {
     /// Turns in the low 16 bits; above them the start, counted from 1, or 0.
     pub fn number(&self) -> u32 {
         let start = self.start.map_or(0, |start| start + 1);
-        start << 16 | self.looked.len() as u32
+        let turns = self.looked.len() as u32;
+        start << 16 | unless(Fault::TurnsInByte, turns, turns & 0xFF)
     }
 }
 
 /// Whether the transmit table has this block held: a bit for each, the lowest
 /// first. Behind the last block there is none to be held.
 pub fn is_held(tables: &[u8], block: u32) -> bool {
-    block < MOST_BLOCKS && tables[block as usize / 8] >> (block % 8) & 1 == 1
+    let table = unless(Fault::ReceiveSearched, 0, TABLES / 2);
+    let bit = unless(Fault::BitsReversed, block % 8, 7 - block % 8);
+    block < MOST_BLOCKS && tables[table + block as usize / 8] >> bit & 1 == 1
 }
 
 /// Searches `all` blocks for `count` free ones. None if that cannot be asked.
 pub fn search(tables: &[u8], all: u32, count: u32) -> Option<Searched> {
-    if tables.len() != TABLES || all > MOST_BLOCKS || count == 0 {
+    let all = unless(Fault::BlocksIn16Bits, all, all & 0xFFFF);
+    let count = unless(Fault::WantedIn16Bits, count, count & 0xFFFF);
+    let some = count > 0 || planted(Fault::NoneSearched);
+    if tables.len() != TABLES || all > MOST_BLOCKS || !some {
         return None;
     }
     let mut looked = Vec::new();

@@ -3,7 +3,7 @@ use mathlib.Core.Bool.{true}
 use mathlib.Core.Path.{_≡_, sym, ap, _∙_}
 use native.Mathlib.Omega.{arith}
 use Rattle.blocks.specs.Tables.{allFree}
-use Rattle.blocks.proofs.OnePass.{none-free, free-next, held-between}
+use Rattle.blocks.proofs.AllFree.{none-free, free-next, held-between}
 use Rattle.tables.specs.Compact.{Kept, tableOf}
 use Rattle.tables.proofs.Bits.{kept-next}
 use Rattle.tables.proofs.Entries.{even-free, odd-held}

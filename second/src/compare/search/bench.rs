@@ -2,7 +2,8 @@
 
 use super::calls::{Calls, Stated, Table};
 use crate::compare::random::{Pool, Random};
-use crate::link::search::{MOST_BLOCKS, TABLES};
+use crate::link::layout::MOST_BLOCKS;
+use crate::link::search::TABLES;
 
 /// Whether a block is held.
 type Held = fn(u32) -> bool;

@@ -7,6 +7,7 @@ use crate::compare::tally::check_least;
 use crate::compare::twin::Twin;
 use crate::compare::Opponent;
 use crate::link::fault;
+use crate::link::layout::MOST_BLOCKS;
 use crate::link::search::{is_held, search, Searched, TABLES};
 
 /// Where a search must find a run, and in how many turns.
@@ -45,8 +46,9 @@ impl Table {
 
     /// The blocks that are held, of so many.
     fn held(&self, all: u32) -> String {
-        let blocks = 0..all.min(8 * self.0.second().len() as u32);
-        let marks = blocks.map(|block| ['.', 'H'][usize::from(is_held(self.0.second(), block))]);
+        let tables = self.0.second();
+        let blocks = 0..all.min(MOST_BLOCKS).min(8 * tables.len() as u32);
+        let marks = blocks.map(|block| ['.', 'H'][usize::from(is_held(tables, block))]);
         marks.collect()
     }
 }
@@ -54,9 +56,9 @@ impl Table {
 /// How often a search came to what.
 #[derive(Default)]
 pub struct Tallies {
-    /// The run was the first that was looked at.
+    /// No held block was met.
     at_once: u64,
-    /// It was found behind others that were stopped, with blocks left.
+    /// Held blocks were met, and others are left.
     later: u64,
     /// Its last block was the last of all.
     at_last: u64,

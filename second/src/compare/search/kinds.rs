@@ -2,7 +2,8 @@
 
 use super::calls::{Calls, Table};
 use crate::compare::random::{Pool, Random};
-use crate::link::search::{MOST_BLOCKS, TABLES};
+use crate::link::layout::MOST_BLOCKS;
+use crate::link::search::TABLES;
 
 /// Searches of each table.
 const SEARCHES: usize = 8;
@@ -19,7 +20,7 @@ pub fn any_runs(calls: &mut Calls, random: &mut Random, _: &Pool) {
     }
 }
 
-/// Nearly every run is one block shorter than what is wanted.
+/// Nearly every run is one block shorter than what is mostly wanted.
 pub fn short_runs(calls: &mut Calls, random: &mut Random, _: &Pool) {
     let run = random.pick(&[1, 2, 7, 8, 15, 31, 63, 127]);
     let mut held: Vec<u32> = (0..MOST_BLOCKS).filter(|b| b % (run + 1) == run).collect();
@@ -29,7 +30,8 @@ pub fn short_runs(calls: &mut Calls, random: &mut Random, _: &Pool) {
     let mut table = Table::holding(held);
     for _ in 0..SEARCHES {
         let all = block_count(random);
-        calls.make(&mut table, all, run + random.below(3) as u32, None);
+        let more = random.pick(&[0, 1, 1, 1, 2]);
+        calls.make(&mut table, all, run + more, None);
     }
 }
 

@@ -22,5 +22,18 @@ macro_rules! searches {
         NextPassedOver,
         /// A run that is one block too short will do
         RunOneShort,
+        // What is asked, and what is told.
+        /// The bits of a byte are taken from the highest on
+        BitsReversed,
+        /// The receive table is searched
+        ReceiveSearched,
+        /// The block count is cut to 16 bits
+        BlocksIn16Bits,
+        /// The number of blocks that are wanted is cut to 16 bits
+        WantedIn16Bits,
+        /// A search for no blocks is made
+        NoneSearched,
+        /// The turns are told in a byte
+        TurnsInByte,
     } } };
 }
