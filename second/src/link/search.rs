@@ -63,11 +63,8 @@ enum Tried {
 
 fn try_run(tables: &[u8], first: u32, all: u32, count: u32, looked: &mut Vec<u32>) -> Tried {
     let wanted = unless(Fault::RunOneShort, count, count.saturating_sub(1).max(1));
-    let end = match all {
-        _ if planted(Fault::LastUnseen) => all.saturating_sub(1),
-        _ if planted(Fault::OneTurnMore) => all + 1,
-        _ => all,
-    };
+    let end = unless(Fault::LastUnseen, all, all.saturating_sub(1));
+    let end = unless(Fault::OneTurnMore, end, all + 1);
     for block in first..end {
         if planted(Fault::StopsEarly) && all - first < count {
             return Tried::Ended;
@@ -91,10 +88,11 @@ fn try_run(tables: &[u8], first: u32, all: u32, count: u32, looked: &mut Vec<u32
 
 /// The first block of the next run, behind a held one.
 fn go_on(first: u32, held: u32) -> u32 {
-    match held {
-        _ if planted(Fault::SearchGoesBack) => first + 1,
-        _ if planted(Fault::HeldAgain) && held > first => held,
-        _ if planted(Fault::NextPassedOver) => held + 2,
-        _ => held + 1,
+    if planted(Fault::SearchGoesBack) {
+        return first + 1;
     }
+    if planted(Fault::HeldAgain) && held > first {
+        return held;
+    }
+    unless(Fault::NextPassedOver, held + 1, held + 2)
 }
