@@ -37,7 +37,7 @@ turnsTo c n nowhere = c
 turnsTo c n (foundAt s) = s + n
 
 -- What a search of a table's first c blocks for n free ones found, and in how many turns: the lowest run. Each block from 0 on is looked at once,
--- in order, as many as there are turns. They end where nothing more has to be looked at, and are no more than c.
+-- in order, as many as there are turns. The last one is that of the run's last block, or of the last of all; they are no more than c.
 pub record OnePass (c : ℕ) (t : List Entry) (n : ℕ) (found : Search) (turns : ℕ) : Type 0 where
   pub lowest : found ≡ freeRun c t n
   pub searched : found ≡ answer (searching c n) (uses t)
