@@ -132,6 +132,9 @@ target/bench/%.o: bench/%.c $(wildcard bench/*.h include/*.h)
 	@mkdir -p $(@D)
 	@gcc $(CFLAGS) -Ibench -c -o $@ $<
 
+# Else where its loops lie in lines of the cache would depend on all that is linked before it, and a search take up to twice the time.
+target/bench/plain_end.o: CFLAGS += -falign-functions=64 -falign-loops=16 -falign-jumps=16
+
 # Rattle's back end compiles at -O3, so the plain ring and the plain pick are measured at both.
 plain_calls = start push pull unit_start unit_push unit_receive pick
 target/bench/%_O3.o: bench/%.c $(wildcard bench/*.h)

@@ -1,5 +1,5 @@
 /* The calls of the proved end and of the plain C end side by side: nanoseconds for a call, by the regions' length and block counts. Both
- * make the same rounds of calls, and a checksum of what the calls answered is compared. The least of all runs counts.
+ * make the same rounds of calls, and a checksum of what the calls answered and wrote is compared. The least of all runs counts.
  *
  * With three words, a kind of rounds, `plain` or `proved`, and a number, it makes so many rounds and nothing else: bench/instructions.sh
  * counts the instructions. */
@@ -89,6 +89,12 @@ static void bind_endpoint(struct plain_end *end, const struct scene *scene)
     plain_arrival(end, rx, scene->length, released, sizeof released, &outcome);
 }
 
+/* The partner takes off all that is pushed. */
+static void take_off(const struct plain_end *end)
+{
+    store(tx + end->tx.ring_offset, end->write);
+}
+
 static uint32_t plain_reserves(const struct scene *scene)
 {
     static struct plain_end end;
@@ -121,6 +127,7 @@ static uint32_t plain_sends(const struct scene *scene)
         sum += number_of_run(number, start, count);
         number = plain_send(&end, tx, scene->length, number ? 256 : start, 0, scene->k, control);
         sum += number_of_control(number, control);
+        take_off(&end);
         number = plain_arrival(&end, rx, scene->length, released, sizeof released, &outcome);
         sum += number_of_arrival(number, &outcome);
     }
@@ -139,8 +146,9 @@ static uint32_t plain_arrivals(const struct scene *scene)
     for (uint32_t i = 0; i < scene->rounds; i++) {
         uint32_t number = plain_arrival(&end, rx, scene->length, sent, sizeof sent, &outcome);
         sum += number_of_arrival(number, &outcome);
-        number = plain_done(&end, 0, control);
+        number = plain_done(&end, tx, scene->length, 0, control);
         sum += number_of_control(number, control);
+        take_off(&end);
     }
     return sum;
 }
@@ -190,11 +198,16 @@ static struct scene scene_of(uint32_t length, uint32_t tx_blocks, uint32_t rx_bl
 
 /* ---- the table */
 
+/* Each run begins with an empty ring, and what it wrote goes into its sum. */
 static double nanoseconds(rounds_call *rounds, const struct scene *scene, uint32_t *sum)
 {
+    memset(tx, 0, scene->length);
     double began = seconds();
     *sum = rounds(scene);
-    return 1e9 * (seconds() - began) / scene->rounds;
+    double took = seconds() - began;
+    for (uint32_t i = 0; i < scene->length; i++)
+        *sum = 31 * *sum + tx[i];
+    return 1e9 * took / scene->rounds;
 }
 
 static void compare(const struct kind *kind, const char *blocks, const struct scene *scene)
@@ -207,7 +220,7 @@ static void compare(const struct kind *kind, const char *blocks, const struct sc
         t = nanoseconds(kind->proved, scene, &of_proved);
         b = t < b ? t : b;
         if (of_plain != of_proved) {
-            fprintf(stderr, "%s, %s: the two ends answered differently, %u and %u\n", kind->what, blocks,
+            fprintf(stderr, "%s, %s: the two ends answered or wrote differently, %u and %u\n", kind->what, blocks,
                     (unsigned)of_plain, (unsigned)of_proved);
             exit(1);
         }

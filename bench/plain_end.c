@@ -1,13 +1,39 @@
 #include "plain_end.h"
 
 #include "bytes.h"
+#include "plain_packets.h"
 
 #include <string.h>
 
 /* A cleared entry is a free one, a cleared endpoint an unused one. */
 enum { FREE, INSIDE, RESERVED, SENT_DATA, SENT_BINDING, RECEIVED, STORED };
 enum { UNUSED, WAITING, BOUND };
-enum { HEADER = 4, LAST_ADDRESS = 0xFD };
+enum { HEADER = 4, CONTROL = 3, LAST_ADDRESS = 0xFD };
+
+/* ---- the transmit ring */
+
+static struct ring ring_of(const struct plain_end *end, uint8_t *tx)
+{
+    uint8_t *ring = tx + end->tx.ring_offset;
+    return (struct ring){ring, ring + end->alignment, ring + end->alignment + 4, end->tx.data_length};
+}
+
+/* Checks 7 and 10 of a control message, before anything is changed for it. */
+static uint32_t ring_refuses(const struct plain_end *end, uint8_t *tx)
+{
+    struct ring ring = ring_of(end, tx);
+    return no_room(&ring, end->write, CONTROL);
+}
+
+static void push_control(struct plain_end *end, uint8_t *tx, uint8_t kind, uint8_t address, uint32_t block,
+                         uint8_t control[CONTROL])
+{
+    struct ring ring = ring_of(end, tx);
+    control[0] = kind;
+    control[1] = address;
+    control[2] = (uint8_t)block;
+    end->write = put(&ring, end->write, control, CONTROL);
+}
 
 /* ---- blocks */
 
@@ -103,27 +129,29 @@ uint32_t plain_send(struct plain_end *end, uint8_t *tx, size_t tx_length, uint32
         return 15;
     if ((uint64_t)k + HEADER > run->count * end->tx.block_size)
         return 23;
+    uint32_t number = ring_refuses(end, tx);
+    if (number)
+        return number;
     store(tx + end->tx.blocks_offset + start * end->tx.block_size, k);
     uint32_t n = blocks_for(&end->tx, k);
     free_run(end->sent, start + n, run->count - n);
     *run = (struct plain_entry){SENT_DATA, (uint8_t)address, (uint16_t)n, k};
-    control[0] = 0;
-    control[1] = (uint8_t)address;
-    control[2] = (uint8_t)start;
+    push_control(end, tx, 0, (uint8_t)address, start, control);
     return 0;
 }
 
-uint32_t plain_done(struct plain_end *end, uint32_t start, uint8_t control[3])
+uint32_t plain_done(struct plain_end *end, uint8_t *tx, size_t tx_length, uint32_t start, uint8_t control[3])
 {
-    if (!end->open)
+    if (!end->open || tx_length != end->tx.length)
         return 6;
     struct plain_entry *run = run_at(end->held, end->rx.block_count, start, RECEIVED);
     if (!run)
         return 25;
+    uint32_t number = ring_refuses(end, tx);
+    if (number)
+        return number;
     free_run(end->held, start, run->count);
-    control[0] = 1;
-    control[1] = 0;
-    control[2] = (uint8_t)start;
+    push_control(end, tx, 1, 0, start, control);
     return 0;
 }
 
@@ -289,16 +317,24 @@ uint32_t plain_arrival(struct plain_end *end, const uint8_t *rx, size_t rx_lengt
 
 static uint8_t unused_address(const struct plain_end *end)
 {
-    bool used[PLAIN_ENDPOINTS + 1] = {false};
+    bool given[PLAIN_ENDPOINTS + 1] = {false};
     for (int i = 0; i < PLAIN_ENDPOINTS; i++) {
         const struct plain_endpoint *e = &end->endpoints[i];
         if (e->stage != UNUSED && e->address < PLAIN_ENDPOINTS)
-            used[e->address] = true;
+            given[e->address] = true;
     }
     uint8_t address = 0;
-    while (used[address])
+    while (given[address])
         address++;
     return address;
+}
+
+static void push_outcome(struct plain_end *end, uint8_t *tx, uint8_t kind, uint8_t address, uint32_t block,
+                         struct plain_outcome *outcome)
+{
+    uint8_t control[CONTROL];
+    push_control(end, tx, kind, address, block, control);
+    *outcome = (struct plain_outcome){PLAIN_CONTROL, kind, address, (uint8_t)block, 0};
 }
 
 /* The initiator sends a binding, and the endpoint waits. */
@@ -307,6 +343,8 @@ static uint32_t initiate(struct plain_end *end, struct plain_endpoint *e, uint8_
 {
     uint32_t start, count, k = (uint32_t)n + 1;
     uint32_t number = find_room(end, k, &start, &count);
+    if (!number)
+        number = ring_refuses(end, tx);
     if (number)
         return number;
     e->address = unused_address(end);
@@ -316,27 +354,32 @@ static uint32_t initiate(struct plain_end *end, struct plain_endpoint *e, uint8_
     uint8_t *message = tx + end->tx.blocks_offset + start * end->tx.block_size;
     store(message, k);
     memcpy(message + HEADER, name, k);
-    *outcome = (struct plain_outcome){PLAIN_CONTROL, 2, e->address, (uint8_t)start, 0};
+    push_outcome(end, tx, 2, e->address, start, outcome);
     return 0;
 }
 
 /* The follower waits, unless a binding of the name is stored. */
-static void follow(struct plain_end *end, struct plain_endpoint *e, const char *name, struct plain_outcome *outcome)
+static uint32_t follow(struct plain_end *end, struct plain_endpoint *e, uint8_t *tx, const char *name,
+                       struct plain_outcome *outcome)
 {
-    e->address = 0;
-    e->stage = WAITING;
-    memcpy(e->name, name, PLAIN_NAME);
+    struct plain_endpoint made = {WAITING, 0, {0}};
     for (int i = 0; i < PLAIN_BINDINGS; i++) {
         struct plain_binding *b = &end->bindings[i];
         if (b->stored && !strcmp(b->name, name)) {
-            e->address = b->address;
-            e->stage = BOUND;
+            uint32_t number = ring_refuses(end, tx);
+            if (number)
+                return number;
+            made.address = b->address;
+            made.stage = BOUND;
             free_run(end->held, b->start, b->count);
-            *outcome = (struct plain_outcome){PLAIN_CONTROL, 3, b->address, (uint8_t)b->start, 0};
+            push_outcome(end, tx, 3, b->address, b->start, outcome);
             memset(b, 0, sizeof *b);
-            return;
+            break;
         }
     }
+    memcpy(made.name, name, PLAIN_NAME);
+    *e = made;
+    return 0;
 }
 
 uint32_t plain_register(struct plain_end *end, uint8_t *tx, size_t tx_length, const char *name, size_t name_length,
@@ -361,6 +404,5 @@ uint32_t plain_register(struct plain_end *end, uint8_t *tx, size_t tx_length, co
     outcome->what = PLAIN_NOTHING;
     if (end->initiator)
         return initiate(end, unused, tx, kept, name_length, outcome);
-    follow(end, unused, kept, outcome);
-    return 0;
+    return follow(end, unused, tx, kept, outcome);
 }

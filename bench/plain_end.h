@@ -1,5 +1,5 @@
 /* One end of the link in plain C, its state behind a pointer: what the proved end is measured against. Calls give a refusal's number,
- * or 0. Opening has its own file, plain_open.c, and so has the ring, plain_ring.c. */
+ * or 0. Send, done and register push their three bytes themselves, all or nothing. Opening has its own file, plain_open.c. */
 #ifndef PLAIN_END_H
 #define PLAIN_END_H
 
@@ -19,6 +19,8 @@ struct plain_entry {
 
 struct plain_region {
     uint32_t length;
+    uint32_t ring_offset;
+    uint32_t data_length;
     uint32_t blocks_offset;
     uint32_t block_count;
     uint32_t block_size;
@@ -41,8 +43,10 @@ struct plain_binding {
 struct plain_end {
     bool open;
     bool initiator;
+    uint32_t alignment;
     struct plain_region tx;
     struct plain_region rx;
+    uint32_t write;
     struct plain_entry sent[PLAIN_BLOCKS];
     struct plain_entry held[PLAIN_BLOCKS];
     struct plain_endpoint endpoints[PLAIN_ENDPOINTS];
@@ -55,7 +59,8 @@ struct plain_bounds {
     uint32_t block_count;
 };
 
-/* What an arrival or a registration comes to: nothing more, a message for its endpoint, or a control message to be sent. */
+/* What an arrival or a registration comes to: nothing more, a message for its endpoint, or a control message, which a registration has
+ * pushed. */
 struct plain_outcome {
     enum { PLAIN_NOTHING, PLAIN_DELIVERED, PLAIN_CONTROL } what;
     uint8_t kind;
@@ -70,12 +75,12 @@ uint32_t plain_reserve(struct plain_end *end, uint32_t k, uint32_t *start, uint3
 
 uint32_t plain_drop(struct plain_end *end, uint32_t start);
 
-/* Gives the three bytes to be pushed. */
+/* Gives the three bytes that are pushed. */
 uint32_t plain_send(struct plain_end *end, uint8_t *tx, size_t tx_length, uint32_t start, uint32_t address, uint32_t k,
                     uint8_t control[3]);
 
-/* Gives the three bytes to be pushed. */
-uint32_t plain_done(struct plain_end *end, uint32_t start, uint8_t control[3]);
+/* Gives the three bytes that are pushed. */
+uint32_t plain_done(struct plain_end *end, uint8_t *tx, size_t tx_length, uint32_t start, uint8_t control[3]);
 
 uint32_t plain_arrival(struct plain_end *end, const uint8_t *rx, size_t rx_length, const uint8_t *message,
                        size_t message_length, struct plain_outcome *outcome);

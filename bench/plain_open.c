@@ -10,7 +10,8 @@ static uint32_t lay_out(struct plain_region *region, struct plain_bounds bounds,
     uint32_t number = plain_layout(bounds.begin, bounds.end, bounds.block_count, remote_blocks, alignment, &layout);
     if (number)
         return number;
-    *region = (struct plain_region){bounds.end - bounds.begin, layout.blocks_offset, bounds.block_count, layout.block_size};
+    *region = (struct plain_region){bounds.end - bounds.begin, layout.ring_offset,  layout.data_length,
+                                    layout.blocks_offset,      bounds.block_count, layout.block_size};
     return 0;
 }
 
@@ -27,6 +28,7 @@ uint32_t plain_open(struct plain_end *end, uint32_t alignment, struct plain_boun
         return 5;
     end->open = true;
     end->initiator = rx.begin < tx.begin;
+    end->alignment = alignment;
     end->tx = out;
     end->rx = in;
     return 0;

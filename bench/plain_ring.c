@@ -2,15 +2,9 @@
 
 #include "bytes.h"
 #include "plain_layout.h"
+#include "plain_packets.h"
 
 #include <string.h>
-
-struct ring {
-    uint8_t *read_index;
-    uint8_t *write_index;
-    uint8_t *data;
-    uint32_t data_length;
-};
 
 /* Where the ring lies in the lent bytes, which are the whole region or not: check 6. */
 static inline uint32_t ring_in(const struct plain_layout *layout, uint32_t alignment, uint32_t own_index, uint8_t *region,
@@ -45,22 +39,6 @@ static uint32_t open_unit(uint32_t begin, uint32_t end, uint32_t alignment, uint
     return ring_in(&layout, alignment, own_index, region, region_length == end - begin, ring);
 }
 
-static uint32_t used(const struct ring *ring, uint32_t read, uint32_t write)
-{
-    return write >= read ? write - read : write + ring->data_length - read;
-}
-
-static uint32_t moved(const struct ring *ring, uint32_t index, uint32_t bytes)
-{
-    index += bytes;
-    return index < ring->data_length ? index : index - ring->data_length;
-}
-
-static uint32_t packet_length(uint32_t content)
-{
-    return 4 + ((content + 3) & ~(uint32_t)3);
-}
-
 static uint32_t give(uint32_t number, uint32_t length, uint32_t own_index, uint32_t dropped, uint32_t *answer, size_t answer_length)
 {
     if (answer_length > 0)
@@ -70,25 +48,6 @@ static uint32_t give(uint32_t number, uint32_t length, uint32_t own_index, uint3
     if (answer_length > 2)
         answer[2] = dropped;
     return number;
-}
-
-/* Puts the packet, writes the index behind it out, and gives that index. */
-static inline uint32_t put(const struct ring *ring, uint32_t own_index, const uint8_t *content, uint32_t k)
-{
-    uint32_t whole = packet_length(k);
-    uint32_t at = moved(ring, own_index, 4);
-    uint32_t straight = ring->data_length - at;
-    store(ring->data + moved(ring, own_index, whole - 4), 0);   /* the padding is what the content leaves of it */
-    store(ring->data + own_index, (k >> 8) | (k & 0xFF) << 8); /* the length, big-endian, and two zeros */
-    if (k <= straight) {
-        memcpy(ring->data + at, content, k);
-    } else {
-        memcpy(ring->data + at, content, straight);
-        memcpy(ring->data, content + straight, k - straight);
-    }
-    own_index = moved(ring, own_index, whole);
-    store(ring->write_index, own_index);
-    return own_index;
 }
 
 /* The calls, on a ring that was opened with this number. */
@@ -112,12 +71,10 @@ static inline uint32_t push(uint32_t number, const struct ring *ring, uint32_t o
         return give(number, 0, own_index, 0, answer, answer_length);
     if (content_length > 65535)
         return give(11, 0, own_index, 0, answer, answer_length);
-    uint32_t read = load(ring->read_index);
-    if (read >= ring->data_length || read % 4)
-        return give(7, 0, own_index, 0, answer, answer_length);
     uint32_t k = (uint32_t)content_length;
-    if (packet_length(k) + used(ring, read, own_index) > ring->data_length - 1)
-        return give(10, 0, own_index, 0, answer, answer_length);
+    number = no_room(ring, own_index, k);
+    if (number)
+        return give(number, 0, own_index, 0, answer, answer_length);
     return give(0, k, put(ring, own_index, content, k), 0, answer, answer_length);
 }
 

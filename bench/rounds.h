@@ -1,6 +1,6 @@
 /* Rounds of calls of the proved end (crates/rounds). Each opens an initiator's end, makes `rounds` rounds of calls on it, and gives the
  * sum of the numbers of what they answered. An opening is the alignment, then begin, end and block count of the transmit region and of
- * the receive region. */
+ * the receive region. The transmit region is to hold an empty ring, both indexes zero; what is pushed is taken off in each round. */
 #ifndef ROUNDS_H
 #define ROUNDS_H
 

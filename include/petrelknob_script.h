@@ -64,7 +64,7 @@ enum petrelknob_given {
     PETRELKNOB_GIVEN_NOTHING = 0, /* no values */
     PETRELKNOB_GIVEN_LENGTH = 1,  /* of start, push and pull: the length, 0 where refused; of a pull with 9 also the bytes dropped */
     PETRELKNOB_GIVEN_RUN = 2,     /* of reserve: start, count */
-    PETRELKNOB_GIVEN_CONTROL = 3, /* of send, done, register and arrival: the three bytes to be pushed */
+    PETRELKNOB_GIVEN_CONTROL = 3, /* of send, done and register: the three bytes, pushed; of arrival: to be pushed */
     PETRELKNOB_GIVEN_DELIVERY = 4 /* of arrival, a data message: address, start, K */
 };
 

@@ -63,22 +63,34 @@ pub fn open() -> Ends {
     Ends::new(from, to).start().turned().start().turned()
 }
 
-// The pump's end registers, and its binding arrives first: it is stored until the panel's end registers the same name. The panel pushes the
-// release of the binding late, behind its first message: that message binds the pump's endpoint too, and the release frees the block.
+// The panel's end registers, and waits. The pump's binding arrives, and is answered with the bytes of its release, which are the caller's to
+// push. The panel pushes them late, behind its first message: that message binds the pump's endpoint too, and the release frees the block.
 pub fn bind(ends: Ends) -> Ends {
     heading(b"2. Binding the endpoint calibration: data comes before the release");
-    let announced = register(ends.turned()).carry();
-    show_binding(announced);
-    let registered = register(announced.turned());
-    let release = registered.answer;
-    show_endpoint(registered.to);
-    let ends = registered.send(5, b"ready").announce();
+    let name = b"calibration";
+    let waiting = register(ends, name);
+    let bound = register(waiting.turned(), name).arrive();
+    let release = bound.answer;
+    let bound = bound.turned();
+    show_endpoint(bound.to);
+    let ends = bound.send(5, b"ready").announce();
     show_endpoint(ends.to);
     show_binding(ends);
-    let ends = ends.finish().with(release).carry();
+    let ends = ends.finish().with(release).push().arrive();
     show_binding(ends);
     show_endpoint(ends.from);
     show_endpoint(ends.to);
+    ends
+}
+
+// The other way about, the pump's binding is stored, and registering the name pushes its release.
+pub fn store(ends: Ends) -> Ends {
+    heading(b"3. Binding the endpoint log: its binding comes before the panel registers");
+    let name = b"log";
+    let stored = register(ends.turned(), name).arrive();
+    show_binding(stored);
+    let ends = register(stored.turned(), name).arrive();
+    show_binding(ends);
     ends
 }
 
@@ -95,22 +107,22 @@ fn show_binding(ends: Ends) {
 }
 
 // One end registers.
-fn register(ends: Ends) -> Ends {
-    let registered = ends.register(b"calibration");
+fn register(ends: Ends, name: &[u8]) -> Ends {
+    let registered = ends.register(name);
     show_binding(registered);
     registered
 }
 
 // More is reserved than is sent: send frees the blocks beyond the need.
 pub fn hold(ends: Ends) -> Ends {
-    heading(b"3. A message arrives, and the pump holds it");
+    heading(b"4. A message arrives, and the pump holds it");
     let text = b"hand-set: 4.10 bar at 1450 rpm, 7.20 bar at 1950 rpm";
     ends.send(200, text).announce()
 }
 
 // A message the same way, while the first one is held.
 pub fn ask(ends: Ends) -> Ends {
-    heading(b"4. Others come and go, both ways, while it is held");
+    heading(b"5. Others come and go, both ways, while it is held");
     ends.pass(9, b"pressure?")
 }
 
@@ -147,7 +159,7 @@ fn write_header(mut ends: Ends, block: u8, k: u32) -> Ends {
     ends
 }
 
-// Writes over the header of the message that the answered control message names, and carries that over.
+// Writes over the header of the message that the pushed control message names, before it is pulled.
 fn announce_with(ends: Ends, k: u32) -> Ends {
     let a = ends.answer;
     let Answer::Control {
@@ -163,7 +175,7 @@ fn announce_with(ends: Ends, k: u32) -> Ends {
 
 // The size of the held message was read at its arrival, and is not read again. Sent once more, it is refused: its block is held.
 pub fn spoil(ends: Ends) -> Ends {
-    heading(b"5. The panel's core writes over the header of the held message");
+    heading(b"6. The panel's core writes over the header of the held message");
     let held = ends.answer;
     let Answer::Delivered {
         address,
@@ -180,17 +192,17 @@ pub fn spoil(ends: Ends) -> Ends {
         address,
         block,
     });
-    let ends = announce_with(again, 5).with(held);
+    let ends = announce_with(again.push(), 5).with(held);
     ends.view();
     ends
 }
 
 // A header that is wrong when the message arrives is refused. With the header that send wrote, of the text's five bytes, it goes through.
 pub fn mend(ends: Ends) -> Ends {
-    heading(b"6. A header that is wrong when its message arrives");
+    heading(b"7. A header that is wrong when its message arrives");
     let ends = ends.send(5, b"flow?");
     let control = ends.answer;
-    let ends = announce_with(ends, 0xFFFFFFFF).with(control);
+    let ends = announce_with(ends, 0xFFFFFFFF).with(control).push();
     announce_with(ends, 5).finish()
 }
 
@@ -213,17 +225,32 @@ fn break_packet(mut ends: Ends) -> Ends {
     ends
 }
 
-// Nobody can tell where the packet ends, so all that is unread is dropped. The ring goes on, and the control message is pushed once more.
+// Nobody can tell where the packet ends, so all that is unread is dropped. The ring goes on, and the panel pushes the control message once
+// more.
 pub fn lose(ends: Ends) -> Ends {
-    heading(b"7. The panel's core writes over a packet on its ring");
+    heading(b"8. The panel's core writes over a packet on its ring");
     let ends = ends.send(5, b"stop?");
-    let ends = break_packet(ends.push());
-    ends.pull().pull().announce().finish()
+    let ends = break_packet(ends);
+    ends.pull().pull().push().announce().finish()
+}
+
+// A ring that nobody pulls from fills up. Send is refused then, and the reservation stays as it is: once there is room, the same send goes
+// through.
+pub fn wait(ends: Ends) -> Ends {
+    heading(b"9. The panel's ring is full");
+    let ends = ends.fill_ring().reserve(6);
+    let a = ends.answer;
+    let Answer::Run { start, count: _ } = a else {
+        return ends;
+    };
+    let text = b"there?";
+    let ends = ends.send_from(start, text).empty_ring();
+    ends.send_from(start, text).announce().finish()
 }
 
 // What was held is free again, in both tables, and no message starts there.
 pub fn release(ends: Ends) {
-    heading(b"8. The pump is done with the held message");
+    heading(b"10. The pump is done with the held message");
     let held = ends.answer;
     let ends = ends.finish().with(held);
     ends.view();

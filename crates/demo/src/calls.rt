@@ -1,11 +1,11 @@
 // The calls of an end, each written as a line. A call is given the parts of the end that it needs. It changes the tables in place; the numbers,
-// endpoints and bindings that it hands back are stored here.
+// the own write index, endpoints and bindings that it hands back are stored here.
 use crate::texts;
 use icbmsg::Opening;
 use link::Answer;
-use link::Called;
 use link::End;
 use link::PacketAnswer;
+use link::Pushed;
 
 // A region of shared memory.
 pub type Memory = [u8; 2048];
@@ -57,6 +57,47 @@ pub fn push(mut end: End, tx: &mut Memory, content: &[u8]) -> End {
     end
 }
 
+// Pushes packets of an unknown kind until the ring takes no more, and writes one line for them.
+pub fn fill_ring(mut end: End, tx: &mut Memory) -> End {
+    let content = [0xFFu8; 3];
+    for _ in 0..64u32 {
+        let called = End::push(end.numbers, tx, &content);
+        let numbers = called.numbers;
+        end.numbers = numbers;
+    }
+    texts::by(end.numbers, b"pushes ff ff ff until its ring is full").print();
+    end
+}
+
+// Takes what is on the ring off, each packet to its arrival, and writes one line for them.
+pub fn empty_ring(mut end: End, rx: &mut Memory) -> End {
+    for _ in 0..64u32 {
+        end = take_off(end, rx);
+    }
+    texts::by(
+        end.numbers,
+        b"pulls all that is unread, which is of an unknown kind: 13",
+    ).print();
+    end
+}
+
+fn take_off(mut end: End, rx: &mut Memory) -> End {
+    let mut buffer = [0u8; 3];
+    let pulled = End::pull(end.numbers, rx, &mut buffer);
+    let numbers = pulled.numbers;
+    end.numbers = numbers;
+    let answer = pulled.answer;
+    let endpoints = end.endpoints;
+    let bindings = end.bindings;
+    match answer {
+        PacketAnswer::Length(_) => {
+            let called = End::arrival(numbers, endpoints, bindings, &mut end.tables, rx, &buffer);
+            called.applied(end)
+        }
+        _ => end,
+    }
+}
+
 // The length of a pulled packet's content.
 fn pulled_length(a: PacketAnswer) -> usize {
     match a {
@@ -89,14 +130,6 @@ pub fn pull(mut end: End, rx: &mut Memory) -> Pulled {
 
 // ---- arrivals and registrations: what they change of endpoints and bindings is handed back
 
-fn changed(end: End, called: Called) -> After {
-    let answer = called.answer;
-    After {
-        answer,
-        end: called.applied(end),
-    }
-}
-
 // The arrival of what was pulled.
 pub fn arrival_of(p: Pulled, rx: &Memory) -> After {
     let buffer = p.buffer;
@@ -117,20 +150,33 @@ fn arrival(mut end: End, rx: &Memory, message: &[u8]) -> After {
     let answer = called.answer;
     let line = texts::by(end.numbers, b"arrival").hex_bytes(message);
     texts::print_answered(line, answer);
-    changed(end, called)
+    After {
+        answer,
+        end: called.applied(end),
+    }
 }
 
 pub fn register(mut end: End, tx: &mut Memory, name: &[u8]) -> After {
     let endpoints = end.endpoints;
     let bindings = end.bindings;
-    let called = End::register(end.numbers, endpoints, bindings, &mut end.tables, tx, name);
+    let registered = End::register(end.numbers, endpoints, bindings, &mut end.tables, tx, name);
+    let called = registered.called;
     let answer = called.answer;
     let line = texts::by(end.numbers, b"register ").text(name);
-    texts::print_answered(line, answer);
-    changed(end, called)
+    texts::print_pushed(line, answer);
+    After {
+        answer,
+        end: registered.applied(end),
+    }
 }
 
-// ---- messages: the tables alone are changed
+// ---- messages: the tables are changed, and send and done hand the own write index back
+
+fn pushed(mut end: End, pushed: Pushed) -> After {
+    end.numbers.write = pushed.write;
+    let answer = pushed.answer;
+    After { answer, end }
+}
 
 pub fn reserve(mut end: End, k: u32) -> After {
     let answer = End::reserve(end.numbers, &mut end.tables, k);
@@ -170,7 +216,7 @@ pub fn fill(end: End, tx: &mut Memory, start: u32, text: &[u8]) {
 
 pub fn send(mut end: End, tx: &mut Memory, start: u32, address: u32, k: u32) -> After {
     let endpoints = end.endpoints;
-    let answer = End::send(
+    let sent = End::send(
         end.numbers,
         endpoints,
         &mut end.tables,
@@ -181,8 +227,9 @@ pub fn send(mut end: End, tx: &mut Memory, start: u32, address: u32, k: u32) -> 
     );
     let line = texts::by(end.numbers, b"send ").number(start);
     let line = line.text(b" to address ").number(address);
-    texts::print_answered(line.text(b", ").bytes(k), answer);
-    After { answer, end }
+    let answer = sent.answer;
+    texts::print_pushed(line.text(b", ").bytes(k), answer);
+    pushed(end, sent)
 }
 
 pub fn view(end: End, rx: &Memory, start: u32) {
@@ -192,9 +239,10 @@ pub fn view(end: End, rx: &Memory, start: u32) {
     texts::viewed(texts::answered(line, answer), seen).print();
 }
 
-pub fn done(mut end: End, start: u32) -> After {
-    let answer = End::done(end.numbers, &mut end.tables, start);
+pub fn done(mut end: End, tx: &mut Memory, start: u32) -> After {
+    let released = End::done(end.numbers, &mut end.tables, tx, start);
     let line = texts::by(end.numbers, b"done ").number(start);
-    texts::print_answered(line, answer);
-    After { answer, end }
+    let answer = released.answer;
+    texts::print_pushed(line, answer);
+    pushed(end, released)
 }

@@ -101,18 +101,17 @@ impl Ends {
         self.with_sender(c)
     }
 
-    // Takes the answered control message over the ring in the sender's region: push, pull, arrival.
-    pub fn carry(self) -> Ends {
-        let a = self.answer;
-        let Answer::Control {
-            kind: _,
-            address: _,
-            block: _,
-        } = a
-        else {
-            return self;
-        };
-        self.push().arrive()
+    // The sender fills its ring, and the receiver takes off what is on it.
+    pub fn fill_ring(mut self) -> Ends {
+        let from = calls::fill_ring(self.from, &mut self.region);
+        self.from = from;
+        self
+    }
+
+    pub fn empty_ring(mut self) -> Ends {
+        let to = calls::empty_ring(self.to, &mut self.region);
+        self.to = to;
+        self
     }
 
     // The sender pushes the answered control message.
@@ -141,32 +140,38 @@ impl Ends {
     }
 
     // The receiver pulls what was pushed, and it arrives.
-    fn arrive(mut self) -> Ends {
+    pub fn arrive(mut self) -> Ends {
         let pulled = calls::pull(self.to, &mut self.region);
         let c = calls::arrival_of(pulled, &self.region);
         self.with_receiver(c)
     }
 
-    // Reserves the blocks of k bytes, fills their room with the text, and sends it.
-    pub fn send(self, k: u32, text: &[u8]) -> Ends {
+    // Reserves the blocks of k bytes.
+    pub fn reserve(self, k: u32) -> Ends {
         let ends = self.with_sender(calls::reserve(self.from, k));
-        let a = ends.answer;
-        let Answer::Run { start, count: _ } = a else {
-            return ends;
-        };
-        ends.show();
-        let ends = ends.send_from(start, text);
         ends.show();
         ends
     }
 
+    // Reserves the blocks of k bytes, fills their room with the text, and sends it.
+    pub fn send(self, k: u32, text: &[u8]) -> Ends {
+        let ends = self.reserve(k);
+        let a = ends.answer;
+        let Answer::Run { start, count: _ } = a else {
+            return ends;
+        };
+        ends.send_from(start, text)
+    }
+
     // Fills the room of the reservation that starts there, and sends it to the first endpoint.
-    fn send_from(mut self, start: u32, text: &[u8]) -> Ends {
+    pub fn send_from(mut self, start: u32, text: &[u8]) -> Ends {
         calls::fill(self.from, &mut self.region, start, text);
         let k = texts::short(text.len());
         let address = first_address(self.from);
         let c = calls::send(self.from, &mut self.region, start, address, k);
-        self.with_sender(c)
+        let ends = self.with_sender(c);
+        ends.show();
+        ends
     }
 
     // The receiver's look at the message that was delivered.
@@ -181,9 +186,9 @@ impl Ends {
         }
     }
 
-    // Carries the answered control message over, shows what became of the blocks, and looks at what was delivered.
+    // The receiver takes the announcement off the ring, which shows what became of the blocks, and looks at what was delivered.
     pub fn announce(self) -> Ends {
-        let ends = self.carry();
+        let ends = self.arrive();
         ends.show();
         ends.view();
         ends
@@ -200,11 +205,17 @@ impl Ends {
         else {
             return self;
         };
-        let ends = self.with_receiver(calls::done(self.to, block as u32));
+        let ends = self.release(block as u32);
         ends.show();
-        let ends = ends.turned().carry().turned();
+        let ends = ends.turned().arrive().turned();
         ends.show();
         ends
+    }
+
+    // The receiver's own region is the one that the release is pushed in.
+    fn release(mut self, block: u32) -> Ends {
+        let c = calls::done(self.to, &mut self.back, block);
+        self.with_receiver(c)
     }
 
     // A message that comes and goes.

@@ -7,11 +7,11 @@ mod texts;
 
 fn main() {
     acts::legend();
-    let ends = acts::hold(acts::bind(acts::open()));
+    let ends = acts::hold(acts::store(acts::bind(acts::open())));
     let held = ends.answer;
     let ends = acts::reply(acts::ask(ends)).with(held);
     ends.view();
     let ends = acts::mend(acts::spoil(ends));
-    let ends = acts::lose(ends).with(held);
+    let ends = acts::wait(acts::lose(ends)).with(held);
     acts::release(ends);
 }

@@ -41,7 +41,7 @@ pub fn answered(line: Line, a: Answer) -> Line {
             kind,
             address,
             block,
-        } => control(accepted(line), kind, address, block),
+        } => control(accepted(line), b"to push:", kind, address, block),
         Answer::Delivered {
             address,
             block,
@@ -52,6 +52,18 @@ pub fn answered(line: Line, a: Answer) -> Line {
 
 pub fn print_answered(line: Line, a: Answer) {
     answered(line, a).print();
+}
+
+// Of a call that pushes its control message.
+pub fn print_pushed(line: Line, a: Answer) {
+    match a {
+        Answer::Control {
+            kind,
+            address,
+            block,
+        } => control(accepted(line), b"pushed:", kind, address, block).print(),
+        _ => print_answered(line, a),
+    }
 }
 
 // A ring call's number and length, or what was dropped, and the own index that the end keeps.
@@ -82,9 +94,9 @@ fn run(line: Line, start: u32, count: u32) -> Line {
     line.text(b", ").counted(count, b"block")
 }
 
-fn control(line: Line, kind: u8, address: u8, block: u8) -> Line {
+fn control(line: Line, what: &[u8], kind: u8, address: u8, block: u8) -> Line {
     let bytes = [kind, address, block];
-    line.to(VALUES).text(b"to push:").hex_bytes(&bytes)
+    line.to(VALUES).text(what).hex_bytes(&bytes)
 }
 
 fn delivered(line: Line, address: u8, block: u8, length: u32) -> Line {

@@ -29,13 +29,15 @@ use Rattle.icbmsg.specs.Registering.{announcement, followed, initiates, 
 use Rattle.icbmsg.specs.Arrivals.{decode, fitsArea, areFree, receiver, delivered, releaseOf, releasedBoundOf, boundTo, boundNamed, decodedRule, arrivalRule, dataRule}
 use Rattle.icbmsg.specs.declared.Control.{Control}
 use Rattle.icbmsg.specs.declared.Control.the-variants.{TooShort, UnknownKind, DataSent, DataReleased, BindingSent, BindingReleased}
-use Rattle.icbmsg.specs.Calls.{Call, arrival, register, rule, lent, step, run, left}
+use Rattle.icbmsg.specs.Calls.{Call, arrival, register, rule, readFrom, step, run, left}
 use Rattle.icbmsg.specs.Reading.{sizeIn, contentAt}
 use Rattle.icbmsg.specs.WellFormed.{Separate}
 use Rattle.icbmsg.specs.Theorems.{Reached, called}
 use Rattle.icbmsg.specs.Names.{endpointOf, isUsed, IsAnnounced}
 use Rattle.icbmsg.specs.Completion.{completes, isRelease, arrives, arrived, someArrived, IsBoundTo, Registration, bindingRun, BindingCompletes, DataReaches}
 use Rattle.icbmsg.specs.End.{End}
+use Rattle.icbmsg.specs.Pushing.{Pushed, nothing-to-push, not-pushed, is-pushed}
+use Rattle.icbmsg.proofs.AllOrNothing.{all-or-nothing}
 use Rattle.icbmsg.proofs.Claims.{Claim, past, past-found}
 use Rattle.icbmsg.proofs.ArrivingBytes.{withName, bound-flat, data-flat}
 use Rattle.icbmsg.proofs.Effects.{sound, whole-open}
@@ -118,6 +120,16 @@ module _ {e : End} (w : Separate e) (n : List ℕ) (a s : ℕ) where
       go : (r : Bool) (i : ℕ) → e .initiator ≡ r → isOpen e ≡ true → i < 8 → Claim (Announces e n a s) (pick r (initiates e n i) (followed e n i (bindingAt (holds (e .rx .«block_count») n) (e .bindings))))
       go true i r o l = initiated i o r l
       go false i r o l = was-followed i (bindingAt (holds (e .rx .«block_count») n) (e .bindings))
+
+-- and behind the ring
+pushed-announces : {e : End} {tx n : List ℕ} {a s : ℕ} {o o′ : Outcome} → Pushed e tx o o′ → Announces e n a s o → Announces e n a s o′
+unfolding changed
+pushed-announces (nothing-to-push q) k h = k h
+pushed-announces (not-pushed c m q r l) k h = absurd (nothing≢control h)
+pushed-announces (is-pushed c m i q r) k h =
+    let z = k h in
+    let g = z .1 in
+    (z .0, record { index = g .index; endpoint = g .endpoint; message = g .message; gone = g .gone })
 
 -- ---- any calls behind it
 
@@ -236,7 +248,7 @@ guarded-delivers e a true l r = decoded-delivers e a l r
 guarded-delivers e a false l r = record { holds = none }
 
 delivery-arrived : (e : End) (rx m : List ℕ) (a b k : ℕ) → step e (arrival rx m) .given ≡ delivery a b k → arrived (completes a) (arrival rx m) (step e (arrival rx m) .number) ≡ true
-unfolding step rule lent arrivalRule arrives
+unfolding step rule readFrom arrivalRule arrives
 delivery-arrived e rx m a b k h = guarded-delivers e a (whole e (e .rx) (length rx)) (decode m) rx .holds b k h
 
 -- ---- 15
@@ -268,7 +280,7 @@ module _ (e : End) (a : ℕ) where
   guarded-15 false b r h = record { holds = λ z. omega (arith, z) }
 
   arrival-15 : (rx m : List ℕ) (b : ℕ) → isFound (receiver e a) ≡ true → decode m ≡ DataSent a b → Claim Not15 (step e (arrival rx m))
-  unfolding step rule lent arrivalRule
+  unfolding step rule readFrom arrivalRule
   arrival-15 rx m b h q = rw q (guarded-15 (whole e (e .rx) (length rx)) b rx h)
 
 -- ---- past 15
@@ -283,7 +295,7 @@ module _ (e : End) (a b : ℕ) (r : List ℕ) (h : leb a 0xFD ≡ true) where
 
 -- an arrival of data past 6
 data-arrives : (e : End) (rx m : List ℕ) (a b : ℕ) → decode m ≡ DataSent a b → whole e (e .rx) (length rx) ≡ true → step e (arrival rx m) ≡ answer (dataRule e a b) rx
-unfolding step rule lent arrivalRule
+unfolding step rule readFrom arrivalRule
 data-arrives e rx m a b q t = rw (q, t)
 
 -- ---- the release
@@ -294,7 +306,7 @@ unfolding releasedBoundOf
 release-zero e a s h k p q = rw (h, p, k, eq-eqb (entry (e .sent) s .address) a q)
 
 release-accepted : (e : End) (rx m : List ℕ) (a s : ℕ) → decode m ≡ BindingReleased a s → whole e (e .rx) (length rx) ≡ true → releasedBoundOf e a s .number ≡ 0 → step e (arrival rx m) .number ≡ 0
-unfolding step rule lent arrivalRule
+unfolding step rule readFrom arrivalRule
 release-accepted e rx m a s q t h = rw (q, t) h
 
 -- it needs a sent binding of its address
@@ -315,7 +327,7 @@ guarded-needs e true a b r = released-needs e a b
 guarded-needs e false a b r = record { holds = λ h. absurd (omega (arith, h)) }
 
 release-needs : (e : End) (rx m : List ℕ) (a b : ℕ) → decode m ≡ BindingReleased a b → Claim (NeedsBinding e a b) (step e (arrival rx m))
-unfolding step rule lent arrivalRule
+unfolding step rule readFrom arrivalRule
 release-needs e rx m a b q = rw q (guarded-needs e (whole e (e .rx) (length rx)) a b rx)
 
 -- the binding's run lies inside, and its use is enough (O8)
@@ -351,8 +363,8 @@ module _ (e : End) (r : Reached e) (tx n : List ℕ) (a s : ℕ) (h : step e (re
   x = bindingRun e a (length n)
 
   begins : (e .initiator ≡ true) × Registration (step e (register tx n) .next) n a s x false false
-  unfolding step rule lent
-  begins = register-says (separate e r) n a s (length tx) .holds h
+  unfolding step rule readFrom
+  begins = pushed-announces (all-or-nothing e tx (registerOf e (length tx) n)) (register-says (separate e r) n a s (length tx) .holds) h
 
   leads : first .initiator ≡ true
   leads = numbers-stay e (register tx n) .initiator ∙ begins .0
@@ -470,7 +482,7 @@ nobody-there e a f = go (receiver e a) refl
         absurd (f i (y .0) (eqb-true _ _ (y .1)))
 
 data-follower : (e : End) (rx m : List ℕ) (a b : ℕ) → e .initiator ≡ false → decode m ≡ DataSent a b → step e (arrival rx m) .next .endpoints ≡ e .endpoints
-unfolding step rule lent arrivalRule
+unfolding step rule readFrom arrivalRule
 data-follower e rx m a b r q = rw q (guarded-stays e r (whole e (e .rx) (length rx)) a b rx .holds)
 
 pub data-reaches : DataReaches

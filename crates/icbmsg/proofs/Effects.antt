@@ -22,22 +22,24 @@ use Rattle.blocks.specs.Search.{Search, nowhere, foundAt, isFound}
 use Rattle.blocks.specs.Tables.{entry, lies, starts, startsData, allFree, freed, taken, runEntry, blocksFor, freeRun}
 use Rattle.icbmsg.specs.Ends.{blockAt, soundEnd, isOpen, changed, withWrite, withRead, foundOr, whole}
 use Rattle.endpoints.specs.Endpoints.{endpointAt, bindingAt, someEndpoint, someBinding, noBinding, at, isUnused, boundAt, registered, waitingFor, holds, clashes, clashesStored, unusedFrom, goodName, waitingAt, boundNow}
-use Rattle.icbmsg.specs.Rings.{ringOf, pushOutcome, pullOutcome, pushOf, startOf, pullRule}
+use Rattle.icbmsg.specs.Rings.{ringOf, txRing, pushOutcome, pullOutcome, pushRule, startOf, pullRule}
 use Rattle.icbmsg.specs.Messages.{reserveOf, roomOf, sendOf, dropOf, viewOf, doneOf, roomQuestion, viewQuestion}
 use Rattle.icbmsg.specs.Registering.{become, followed, initiates, registerOf}
 use Rattle.icbmsg.specs.Arrivals.{decode, fitsArea, areFree, receiver, releaseOf, releasedBoundOf, boundTo, boundNamed, boundRule, decodedRule, arrivalRule, dataRule}
 use Rattle.icbmsg.specs.declared.Control.{Control}
 use Rattle.icbmsg.specs.declared.Control.the-variants.{TooShort, UnknownKind, DataSent, DataReleased, BindingSent, BindingReleased}
-use Rattle.icbmsg.specs.Calls.{Call, start, push, pull, reserve, room, send, drop, arrival, view, done, register, askRoom, askView, rule, lent, step}
+use Rattle.icbmsg.specs.Calls.{Call, start, push, pull, reserve, room, send, drop, arrival, view, done, register, askRoom, askView, rule, readFrom, step}
 use Rattle.icbmsg.specs.Reading.{sizeIn, contentAt}
 use Rattle.blocks.specs.WellFormed.{leading, blockKind, Live}
 use Rattle.icbmsg.specs.WellFormed.{sentRun, bindingOf}
-use Rattle.icbmsg.specs.Ledger.{transmit, receive, RunChange, no-change, takes, trims, frees, reserveChange, deliveryChange, storedChange, registerChange, arrivalChange, runChange}
-use Rattle.icbmsg.specs.Theorems.{Part, no-part, length-part, pull-part, message-part, refusedGiven, partOf}
+use Rattle.icbmsg.specs.Ledger.{Side, transmit, receive, RunChange, no-change, takes, trims, frees, reserveChange, deliveryChange, storedChange, registerChange, arrivalChange, runChange}
+use Rattle.icbmsg.specs.Theorems.{SameNumbers, Part, no-part, length-part, pull-part, message-part, refusedGiven, partOf}
 use Rattle.icbmsg.specs.Places.{InMessage, PartIn}
 use Rattle.blocks.proofs.LeastBlocks.{blocks-hold, blocks-least, blocks-one}
 use Rattle.blocks.proofs.Search.{first-at, lowest-at}
 use Rattle.blocks.proofs.Tables.{run-of, live, data-run, Each, every}
+use Rattle.icbmsg.specs.Pushing.{Pushed, nothing-to-push, not-pushed, is-pushed}
+use Rattle.icbmsg.proofs.AllOrNothing.{push-answer, all-or-nothing, not-both}
 use Rattle.icbmsg.proofs.RulesRead.{pull-answer}
 use Rattle.icbmsg.proofs.ArrivingBytes.{withName, bound-flat, data-flat}
 use Rattle.blocks.specs.Names.{Name, endless, name, nameIn, paddedName}
@@ -51,8 +53,9 @@ use Rattle.icbmsg.specs.End.{End}
 
 -- ---- how an end may change
 
--- a table: free blocks are taken, a live run is freed, or trimmed
+-- a table: nothing, free blocks are taken, a live run is freed, or trimmed
 pub data SentChange (c : ℕ) (good : Entry → Bool) (t : List Entry) : RunChange → List Entry → Type 0 where
+  as-sent : SentChange c good t no-change t
   run-taken : (u : Use) (s n a k : ℕ) → blockKind u ≡ leading → good (runEntry u n a k) ≡ true → allFree t s n ≡ true → 1 ≤ n → s + n ≤ c → SentChange c good t (takes transmit s n) (taken t u s n a k)
   run-freed : (s : ℕ) → Live t s → SentChange c good t (frees transmit s) (freed t s (entry t s .count))
   run-trimmed : (u : Use) (s n a k : ℕ) → Live t s → blockKind u ≡ leading → good (runEntry u n a k) ≡ true → 1 ≤ n → n ≤ entry t s .count →
@@ -68,15 +71,30 @@ pub data HeldChange (g : Region) (t : List Entry) (bs : List Binding) : RunChang
   forgets : (j : ℕ) → j < 8 → bindingOf bs j .stored ≡ true →
       HeldChange g t bs (frees receive (bindingOf bs j .start)) (freed t (bindingOf bs j .start) (bindingOf bs j .count)) (set bs j noBinding)
 
--- an end
-pub data EndChange (e : End) : RunChange → End → Type 0 where
-  stays : EndChange e no-change e
-  writes : (w : ℕ) → inRule (e .tx .«data_length») w ≡ true → EndChange e no-change (withWrite e w)
-  reads : (r : ℕ) → inRule (e .rx .«data_length») r ≡ true → EndChange e no-change (withRead e r)
-  sends : {d : RunChange} {t : List Entry} (ps : List Endpoint) → SentChange (e .tx .«block_count») (sentRun (e .tx)) (e .sent) d t → length ps ≡ length (e .endpoints) →
-      EndChange e d (changed e (e .write) (e .read) t (e .held) ps (e .bindings))
-  keeps : {d : RunChange} {t : List Entry} {bs : List Binding} (ps : List Endpoint) → HeldChange (e .rx) (e .held) (e .bindings) d t bs → length ps ≡ length (e .endpoints) →
-      EndChange e d (changed e (e .write) (e .read) (e .sent) t ps bs)
+-- as far as it is on side d
+abbrev pub onSide : Side → RunChange → RunChange
+onSide d no-change = no-change
+onSide transmit (takes transmit s n) = takes transmit s n
+onSide transmit (takes receive s n) = no-change
+onSide transmit (trims transmit s n) = trims transmit s n
+onSide transmit (trims receive s n) = no-change
+onSide transmit (frees transmit s) = frees transmit s
+onSide transmit (frees receive s) = no-change
+onSide receive (takes transmit s n) = no-change
+onSide receive (takes receive s n) = takes receive s n
+onSide receive (trims transmit s n) = no-change
+onSide receive (trims receive s n) = trims receive s n
+onSide receive (frees transmit s) = no-change
+onSide receive (frees receive s) = frees receive s
+
+-- An end: its numbers stay, its own indexes stay in rule, and each table changes as the runs on its side do.
+pub record EndChange (e : End) (x : RunChange) (e′ : End) : Type 0 where
+  pub numbers : SameNumbers e e′
+  pub writes : inRule (e .tx .«data_length») (e′ .write) ≡ true
+  pub reads : inRule (e .rx .«data_length») (e′ .read) ≡ true
+  pub sent : SentChange (e .tx .«block_count») (sentRun (e .tx)) (e .sent) (onSide transmit x) (e′ .sent)
+  pub held : HeldChange (e .rx) (e .held) (e .bindings) (onSide receive x) (e′ .held) (e′ .bindings)
+  pub endpoints : length (e′ .endpoints) ≡ length (e .endpoints)
 
 -- ---- what a call does
 
@@ -113,6 +131,42 @@ pub sound : (e : End) → isOpen e ≡ true → Each (soundEnd e)
 unfolding isOpen
 sound e h = every (soundEnd e) h
 
+-- ---- changes of an open end
+
+pub same-numbers : {e : End} → SameNumbers e e
+same-numbers = record { initiator = refl; alignment = refl; tx = refl; rx = refl }
+
+module _ (e : End) (o : isOpen e ≡ true) where
+  pub stays : EndChange e no-change e
+  stays = let z = sound e o in record { numbers = same-numbers; writes = z .1 .1 .1 .0; reads = z .1 .1 .1 .1 .0; sent = as-sent; held = as-was; endpoints = refl }
+
+  pub reads-to : (r : ℕ) → inRule (e .rx .«data_length») r ≡ true → EndChange e no-change (withRead e r)
+  unfolding changed
+  reads-to r h = let z = sound e o in record { numbers = record { initiator = refl; alignment = refl; tx = refl; rx = refl }; writes = z .1 .1 .1 .0; reads = h; sent = as-sent; held = as-was; endpoints = refl }
+
+  -- a change of runs that is on the transmit side alone, with these endpoints
+  sends : {x : RunChange} {t : List Entry} (ps : List Endpoint) → onSide receive x ≡ no-change → SentChange (e .tx .«block_count») (sentRun (e .tx)) (e .sent) (onSide transmit x) t → length ps ≡ length (e .endpoints) →
+      EndChange e x (changed e (e .write) (e .read) t (e .held) ps (e .bindings))
+  unfolding changed
+  sends ps q h l =
+      let z = sound e o in
+      record { numbers = record { initiator = refl; alignment = refl; tx = refl; rx = refl }; writes = z .1 .1 .1 .0; reads = z .1 .1 .1 .1 .0; sent = h; held = rw q as-was; endpoints = l }
+
+  -- and on the receive side
+  keeps : {x : RunChange} {t : List Entry} {bs : List Binding} (ps : List Endpoint) → onSide transmit x ≡ no-change → HeldChange (e .rx) (e .held) (e .bindings) (onSide receive x) t bs → length ps ≡ length (e .endpoints) →
+      EndChange e x (changed e (e .write) (e .read) (e .sent) t ps bs)
+  unfolding changed
+  keeps ps q h l =
+      let z = sound e o in
+      record { numbers = record { initiator = refl; alignment = refl; tx = refl; rx = refl }; writes = z .1 .1 .1 .0; reads = z .1 .1 .1 .1 .0; sent = rw q as-sent; held = h; endpoints = l }
+
+-- and the own write index moved on
+writes-too : {e e′ : End} {x : RunChange} (w : ℕ) → inRule (e .tx .«data_length») w ≡ true → EndChange e x e′ → EndChange e x (withWrite e′ w)
+unfolding changed
+writes-too w h m =
+    let n = m .numbers in
+    record { numbers = record { initiator = n .initiator; alignment = n .alignment; tx = n .tx; rx = n .rx }; writes = h; reads = m .reads; sent = m .sent; held = m .held; endpoints = m .endpoints }
+
 -- ---- runs
 
 -- n blocks at s end inside the region's blocks
@@ -135,17 +189,25 @@ whole-open e g n h = both (isOpen e) (eqb n (g .length)) h .0
 write-effect : (e : End) (w : Bool) (ws : List (ℕ × ℕ)) (x : RingOutcome) (a : Answer) → (w ≡ true → isOpen e ≡ true) → PlainAt x a →
     ((k i : ℕ) → a ≡ ringYes k i → inRule (e .tx .«data_length») i ≡ true) → Effect (λ _. no-change) e length-part (pick w (pushOutcome e ws a) (ringRefused e 6))
 write-effect e true ws x (ringNo n) o p q = refuses n (le-leb 1 n (p .0))
-write-effect e true ws x (ringYes k i) o p q = accepts refl (o refl) (refl, refl) (writes i (q k i refl))
+write-effect e true ws x (ringYes k i) o p q = accepts refl (o refl) (refl, refl) (writes-too i (q k i refl) (stays e (o refl)))
 write-effect e true ws x (ringDropped n i) o p q = absurd p
 write-effect e false ws x a o p q = refuses _ refl
 
-push-effect : (e : End) (tx c : List ℕ) → Effect (λ _. no-change) e length-part (pushOf e tx c)
-unfolding pushOf
+push-effect : (e : End) (tx c : List ℕ) → Effect (λ _. no-change) e length-part (answer (pushRule e (length tx) c) tx)
 push-effect e tx c =
-    let g : Ring = ringOf (e .alignment) (e .tx) in
+    let g : Ring = txRing e in
     let o : RingOutcome = ringPush tx g (e .write) c in
-    write-effect e (whole e (e .tx) (length tx)) (o .region) o (o .answer) (whole-open e (e .tx) (length tx))
-    (refusals .push tx g (e .write) c) (λ k i h. indexes-in-rule .push tx g (e .write) c k i h)
+    rw (push-answer e c tx)
+    (write-effect e (whole e (e .tx) (length tx)) (o .region) o (o .answer) (whole-open e (e .tx) (length tx))
+    (refusals .push tx g (e .write) c) (λ k i h. indexes-in-rule .push tx g (e .write) c k i h))
+
+-- what is true of a rule before the ring is true behind it
+pushed-effect : {e : End} {f : Given → RunChange} {tx : List ℕ} {o o′ : Outcome} → Pushed e tx o o′ → Effect f e no-part o → Effect f e no-part o′
+pushed-effect (nothing-to-push q) h = h
+pushed-effect (not-pushed c n q r l) h = refuses n (le-leb 1 n l)
+pushed-effect (is-pushed c k i q r) (refuses n l) = absurd (not-both q)
+pushed-effect (is-pushed c k i q r) (drops n j ws p o z) = absurd (not-both q)
+pushed-effect {e} {tx = tx} (is-pushed c k i q r) (accepts z o p m) = accepts z o p (writes-too i (indexes-in-rule .push tx (txRing e) (e .write) c k i r) m)
 
 start-effect : (e : End) (n : ℕ) → Effect (λ _. no-change) e length-part (startOf e n)
 unfolding startOf
@@ -159,7 +221,7 @@ read-effect : (e : End) (w : Bool) (ws bs : List (ℕ × ℕ)) (a : Answer) → 
     ((k i : ℕ) → a ≡ ringYes k i → inRule (e .rx .«data_length») i ≡ true) → ((n i : ℕ) → a ≡ ringDropped n i → inRule (e .rx .«data_length») i ≡ true) →
     Effect (λ _. no-change) e pull-part (pick w (pullOutcome e ws bs a) (ringRefused e 6))
 read-effect e true ws bs (ringNo n) o p q d = refuses n (le-leb 1 n (p n refl))
-read-effect e true ws bs (ringYes k i) o p q d = accepts refl (o refl) (refl, refl) (reads i (q k i refl))
+read-effect e true ws bs (ringYes k i) o p q d = accepts refl (o refl) (refl, refl) (reads-to e (o refl) i (q k i refl))
 read-effect e true ws bs (ringDropped n i) o p q d = drops n i ws refl (o refl) (d n i refl)
 read-effect e false ws bs a o p q d = refuses _ refl
 
@@ -189,7 +251,7 @@ reserve-effect e k =
     checked (isOpen e) _ (refl, refl) λ o.
     checked (leb (blocksFor (e .tx .«block_size») k) (e .tx .«block_count»)) _ (refl, refl) λ _.
     found (freeRun (e .tx .«block_count») (e .sent) (blocksFor (e .tx .«block_size») k)) _ (refl, refl) λ s q.
-    accepts refl o (refl, refl) (sends (e .endpoints) (take-run e Reserved 0 k 0 s o refl refl q) refl)
+    accepts refl o (refl, refl) (sends e o (e .endpoints) refl (take-run e Reserved 0 k 0 s o refl refl q) refl)
 
 room-effect : (e : End) (n s : ℕ) → Effect (λ _. no-change) e (message-part transmit s) (roomOf e n s)
 unfolding roomOf
@@ -201,7 +263,7 @@ room-effect e n s =
     let r = run-of Reserved (e .tx .«block_count») (e .sent) s h in
     let x : ℕ = entry (e .sent) s .count * e .tx .«block_size» in
     let l : 4 ≤ x = omega (arith, mul-le-mul (r .one) (leb-true 4 (e .tx .«block_size») (z .1 .1 .1 .1 .1 .1 .1 .1 .1 .1 .1 .1 .0))) in
-    accepts refl o (in-message e (e .tx) (e .sent) s (x - 4) (live r refl) (r .ends) (omega arith)) stays
+    accepts refl o (in-message e (e .tx) (e .sent) s (x - 4) (live r refl) (r .ends) (omega arith)) (stays e o)
 
 send-effect : (e : End) (n s a k : ℕ) → Effect (λ _. trims transmit s (blocksFor (e .tx .«block_size») k)) e no-part (sendOf e n s a k)
 unfolding sendOf
@@ -214,7 +276,7 @@ send-effect e n s a k =
     let r = run-of Reserved (e .tx .«block_count») (e .sent) s h in
     let p = size-pos e o .0 in
     accepts refl o (refl, refl)
-    (sends (e .endpoints)
+    (sends e o (e .endpoints) refl
     (run-trimmed SentData s (blocksFor (e .tx .«block_size») k) a k (live r refl) refl (le-leb (k + 4) (blocksFor (e .tx .«block_size») k * e .tx .«block_size») (blocks-hold (e .tx .«block_size») k p)) (blocks-one (e .tx .«block_size») k p)
     (blocks-least (e .tx .«block_size») k (entry (e .sent) s .count) (leb-true (k + 4) (entry (e .sent) s .count * e .tx .«block_size») f) p))
     refl)
@@ -224,7 +286,7 @@ unfolding dropOf
 drop-effect e s =
     checked (isOpen e) _ (refl, refl) λ o.
     checked (starts Reserved (e .tx .«block_count») (e .sent) s) _ (refl, refl) λ h.
-    accepts refl o (refl, refl) (sends (e .endpoints) (run-freed s (live (run-of Reserved (e .tx .«block_count») (e .sent) s h) refl)) refl)
+    accepts refl o (refl, refl) (sends e o (e .endpoints) refl (run-freed s (live (run-of Reserved (e .tx .«block_count») (e .sent) s h) refl)) refl)
 
 view-effect : (e : End) (n s : ℕ) → Effect (λ _. no-change) e (message-part receive s) (viewOf e n s)
 unfolding viewOf
@@ -232,14 +294,15 @@ view-effect e n s =
     checked (whole e (e .rx) n) _ (refl, refl) λ w.
     checked (startsData (e .rx .«block_count») (e .rx .«block_size») (e .held) s) _ (refl, refl) λ h.
     let d = data-run (e .rx .«block_count») (e .rx .«block_size») (e .held) s h in
-    accepts refl (whole-open e (e .rx) n w) (in-message e (e .rx) (e .held) s (entry (e .held) s .length) (live (d .0) refl) (d .0 .ends) (d .1)) stays
+    accepts refl (whole-open e (e .rx) n w) (in-message e (e .rx) (e .held) s (entry (e .held) s .length) (live (d .0) refl) (d .0 .ends) (d .1)) (stays e (whole-open e (e .rx) n w))
 
-done-effect : (e : End) (s : ℕ) → Effect (λ _. frees receive s) e no-part (doneOf e s)
+done-effect : (e : End) (n s : ℕ) → Effect (λ _. frees receive s) e no-part (doneOf e n s)
 unfolding doneOf
-done-effect e s =
-    checked (isOpen e) _ (refl, refl) λ o.
+done-effect e n s =
+    checked (whole e (e .tx) n) _ (refl, refl) λ w.
     checked (startsData (e .rx .«block_count») (e .rx .«block_size») (e .held) s) _ (refl, refl) λ h.
-    accepts refl o (refl, refl) (keeps (e .endpoints) (finishes s (data-run (e .rx .«block_count») (e .rx .«block_size») (e .held) s h .0 .use-is-it)) refl)
+    let o = whole-open e (e .tx) n w in
+    accepts refl o (refl, refl) (keeps e o (e .endpoints) refl (finishes s (data-run (e .rx .«block_count») (e .rx .«block_size») (e .held) s h .0 .use-is-it)) refl)
 
 -- a question on a part hands out none
 asked : {e : End} {p : Part} {o : Outcome} → refusedGiven p ≡ nothing → Effect (λ _. no-change) e p o → Effect (λ _. no-change) e no-part (withoutPlace o)
@@ -258,17 +321,17 @@ initiates-effect e n i o =
     checked (leb (blocksFor (e .tx .«block_size») k) (e .tx .«block_count»)) _ (refl, refl) λ _.
     found (freeRun (e .tx .«block_count») (e .sent) (blocksFor (e .tx .«block_size») k)) _ (refl, refl) λ s q.
     accepts refl o (refl, refl)
-    (sends (become e i _ (unusedFrom 8 0 (e .endpoints)) n)
+    (sends e o (become e i _ (unusedFrom 8 0 (e .endpoints)) n) refl
     (take-run e SentBinding (unusedFrom 8 0 (e .endpoints)) k k s o refl (le-leb (k + 4) (blocksFor (e .tx .«block_size») k * e .tx .«block_size») (blocks-hold (e .tx .«block_size») k (size-pos e o .0))) q)
     (length-set (e .endpoints) i _))
 
 followed-effect : (e : End) (n : List ℕ) (i : ℕ) (q : Search) → isOpen e ≡ true → bindingAt (holds (e .rx .«block_count») n) (e .bindings) ≡ q → Effect (registerChange (blocksFor (e .tx .«block_size») (length n + 1))) e no-part (followed e n i q)
-followed-effect e n i nowhere o h = accepts refl o (refl, refl) (keeps (become e i _ 0 n) as-was (length-set (e .endpoints) i _))
+followed-effect e n i nowhere o h = accepts refl o (refl, refl) (keeps e o (become e i _ 0 n) refl as-was (length-set (e .endpoints) i _))
 followed-effect e n i (foundAt j) o h =
     let w = first-at (holds (e .rx .«block_count») n) noBinding (e .bindings) 8 0 j h in
     let b : Binding = bindingOf (e .bindings) j in
     let z = every (b .stored ∷ same (b .name) (paddedName n) ∷ lies (e .rx .«block_count») (b .start) (b .count) ∷ []) (w .0) in
-    accepts refl o (refl, refl) (keeps (become e i _ (b .address) n) (forgets j (omega arith) (z .0)) (length-set (e .endpoints) i _))
+    accepts refl o (refl, refl) (keeps e o (become e i _ (b .address) n) refl (forgets j (omega arith) (z .0)) (length-set (e .endpoints) i _))
 
 register-effect : (e : End) (l : ℕ) (n : List ℕ) → Effect (registerChange (blocksFor (e .tx .«block_size») (length n + 1))) e no-part (registerOf e l n)
 unfolding registerOf
@@ -305,7 +368,7 @@ data-effect e a b r o =
     let m = fit-run g b k p h f in
     let x = blocks-hold (g .«block_size») k p in
     accepts refl o (refl, refl)
-    (keeps (boundNow (e .endpoints) a (receiver e a))
+    (keeps e o (boundNow (e .endpoints) a (receiver e a)) refl
     (receives b (blocksFor (g .«block_size») k) a k (le-leb (k + 4) (blocksFor (g .«block_size») k * g .«block_size») x) u (blocks-one (g .«block_size») k p) m)
     (boundNow-length (e .endpoints) a (receiver e a))))
 
@@ -314,7 +377,7 @@ unfolding releaseOf
 release-effect e b o =
     checked (ltb b (e .tx .«block_count»)) _ (refl, refl) λ _.
     checked (starts SentData (e .tx .«block_count») (e .sent) b) _ (refl, refl) λ h.
-    accepts refl o (refl, refl) (sends (e .endpoints) (run-freed b (live (run-of SentData (e .tx .«block_count») (e .sent) b h) refl)) refl)
+    accepts refl o (refl, refl) (sends e o (e .endpoints) refl (run-freed b (live (run-of SentData (e .tx .«block_count») (e .sent) b h) refl)) refl)
 
 bindingReleased-effect : (e : End) (a b : ℕ) → isOpen e ≡ true → Effect (λ _. frees transmit b) e no-part (releasedBoundOf e a b)
 unfolding releasedBoundOf
@@ -324,15 +387,15 @@ bindingReleased-effect e a b o =
     checked (starts SentBinding (e .tx .«block_count») (e .sent) b && eqb (entry (e .sent) b .address) a) _ (refl, refl) λ h.
     let r = run-of SentBinding (e .tx .«block_count») (e .sent) b (both (starts SentBinding (e .tx .«block_count») (e .sent) b) _ h .0) in
     let q : Search = endpointAt (waitingAt a) (e .endpoints) in
-    accepts refl o (refl, refl) (sends (boundNow (e .endpoints) a q) (run-freed b (live r refl)) (boundNow-length (e .endpoints) a q))
+    accepts refl o (refl, refl) (sends e o (boundNow (e .endpoints) a q) refl (run-freed b (live r refl)) (boundNow-length (e .endpoints) a q))
 
 boundTo-effect : (e : End) (a b n : ℕ) (its : List ℕ) (q : Search) → isOpen e ≡ true → allFree (e .held) b n ≡ true → 1 ≤ n → b + n ≤ e .rx .«block_count» →
     Effect (storedChange b n) e no-part (boundTo e a b n its q)
 boundTo-effect e a b n its nowhere o f l m =
     found (bindingAt (λ x. not (x .stored)) (e .bindings)) _ (refl, refl) λ j h.
     let w = first-at (λ x. not (x .stored)) noBinding (e .bindings) 8 0 j h in
-    accepts refl o (refl, refl) (keeps (e .endpoints) (stores b n a j (paddedName its) f l m (omega arith) (not-true _ (w .0))) refl)
-boundTo-effect e a b n its (foundAt i) o f l m = accepts refl o (refl, refl) (keeps (become e i _ a its) as-was (length-set (e .endpoints) i _))
+    accepts refl o (refl, refl) (keeps e o (e .endpoints) refl (stores b n a j (paddedName its) f l m (omega arith) (not-true _ (w .0))) refl)
+boundTo-effect e a b n its (foundAt i) o f l m = accepts refl o (refl, refl) (keeps e o (become e i _ a its) refl as-was (length-set (e .endpoints) i _))
 
 named-effect : (e : End) (a b n : ℕ) (q : Name) → isOpen e ≡ true → allFree (e .held) b n ≡ true → 1 ≤ n → b + n ≤ e .rx .«block_count» →
     Effect (storedChange b n) e no-part (withName e (boundNamed e a b n) q)
@@ -371,17 +434,17 @@ arrival-effect e false l r h = refuses _ refl
 -- ---- each call
 
 pub effect : (e : End) (c : Call) → Effect (runChange (e .tx) (e .rx) c) e (partOf c) (step e c)
-unfolding step rule lent partOf runChange arrivalRule roomQuestion viewQuestion
+unfolding step rule readFrom partOf runChange arrivalRule roomQuestion viewQuestion
 effect e (start tx) = start-effect e (length tx)
 effect e (push tx c) = push-effect e tx c
 effect e (pull rx b) = pull-effect e rx (length b)
 effect e (reserve k) = reserve-effect e k
 effect e (room tx s) = room-effect e (length tx) s
-effect e (send tx s a k) = send-effect e (length tx) s a k
+effect e (send tx s a k) = pushed-effect (all-or-nothing e tx (sendOf e (length tx) s a k)) (send-effect e (length tx) s a k)
 effect e (drop s) = drop-effect e s
 effect e (arrival rx m) = arrival-effect e (whole e (e .rx) (length rx)) (decode m) rx (whole-open e (e .rx) (length rx))
 effect e (view rx s) = view-effect e (length rx) s
-effect e (done s) = done-effect e s
-effect e (register tx n) = register-effect e (length tx) n
+effect e (done tx s) = pushed-effect (all-or-nothing e tx (doneOf e (length tx) s)) (done-effect e (length tx) s)
+effect e (register tx n) = pushed-effect (all-or-nothing e tx (registerOf e (length tx) n)) (register-effect e (length tx) n)
 effect e (askRoom s n) = asked refl (room-effect e n s)
 effect e (askView s n) = asked refl (view-effect e n s)

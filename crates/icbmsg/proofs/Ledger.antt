@@ -16,16 +16,16 @@ use Rattle.blocks.specs.declared.Entry.{Entry}
 use Rattle.blocks.proofs.Tables.{Relation, below, first, later, above, relation, Taken, its-first, its-later, apart, Freed, gone, free-at, freed-view, freed-free, taken-view, free-law, fresh-entry}
 use Rattle.endpoints.specs.declared.Binding.{Binding}
 use Rattle.icbmsg.specs.Outcome.{Given, Outcome}
-use Rattle.icbmsg.specs.Ends.{isOpen, changed}
+use Rattle.icbmsg.specs.Ends.{isOpen}
 use Rattle.icbmsg.specs.Opening.{opening}
 use Rattle.icbmsg.specs.declared.Opening.{Opening}
 use Rattle.icbmsg.specs.Calls.{Call, run, step, left}
-use Rattle.icbmsg.specs.Ledger.{Side, transmit, receive, table, RunChange, Runs, Ledger, noted, enter, entered, noRuns, ledger, runBlocks, runAt, Accounts, ByHistory}
+use Rattle.icbmsg.specs.Ledger.{Side, transmit, receive, table, RunChange, no-change, takes, trims, frees, Runs, Ledger, noted, enter, entered, noRuns, ledger, runBlocks, runAt, Accounts, ByHistory}
 use Rattle.icbmsg.specs.WellFormed.{heldRun, bindingOf, Stored, Separate}
 use Rattle.icbmsg.specs.Theorems.{Part, Reached, opened, called}
 use Rattle.icbmsg.specs.declared.Region.{Region}
 use Rattle.icbmsg.specs.End.{End}
-use Rattle.icbmsg.proofs.Effects.{SentChange, run-taken, run-freed, run-trimmed, HeldChange, as-was, receives, finishes, stores, forgets, EndChange, stays, writes, reads, sends, keeps, Effect, refuses, drops, accepts, sound, effect}
+use Rattle.icbmsg.proofs.Effects.{SentChange, as-sent, run-taken, run-freed, run-trimmed, HeldChange, as-was, receives, finishes, stores, forgets, onSide, EndChange, reads-to, Effect, refuses, drops, accepts, sound, effect}
 use Rattle.icbmsg.proofs.Separate.{Opens, opens, shuts, how-opened, separate, left-reached}
 use Rattle.icbmsg.proofs.RunsStay.{not-free}
 use Rattle.icbmsg.proofs.Refusals.{numbers-stay}
@@ -95,39 +95,48 @@ abbrev Matches : Ledger → End → Type 0
 Matches l e = (d : Side) → Same (l d) (table d e)
 
 sent-matches : {c : ℕ} {good : Entry → Bool} {t t′ : List Entry} {x : RunChange} (l : Ledger) → WellFormed c good t → c ≤ 256 → SentChange c good t x t′ → Same (l transmit) t →
-    (s : ℕ) → (enter x l transmit s ≡ runAt t′ s) × (enter x l receive s ≡ l receive s)
-sent-matches {t = t} l w b (run-taken u s n a k su g f o m) h x = (taken-noted (l transmit) h (taken-view w b u s n a k o m) (λ i p q. free-at t s n i f p q) su refl o x, refl)
-sent-matches l w b (run-freed s v) h x = (freed-noted (l transmit) h w b s v x, refl)
-sent-matches l w b (run-trimmed u s n a k v su g o m) h x = (trimmed-noted (l transmit) h w b u s n a k v su o m x, refl)
+    (s : ℕ) → enter x l transmit s ≡ runAt t′ s
+sent-matches l w b as-sent h x = h x
+sent-matches {t = t} l w b (run-taken u s n a k su g f o m) h x = taken-noted (l transmit) h (taken-view w b u s n a k o m) (λ i p q. free-at t s n i f p q) su refl o x
+sent-matches l w b (run-freed s v) h x = freed-noted (l transmit) h w b s v x
+sent-matches l w b (run-trimmed u s n a k v su g o m) h x = trimmed-noted (l transmit) h w b u s n a k v su o m x
 
 held-matches : {g : Region} {t t′ : List Entry} {bs bs′ : List Binding} {x : RunChange} (l : Ledger) → WellFormed (g .«block_count») (heldRun g) t → Stored t bs → g .«block_count» ≤ 256 → HeldChange g t bs x t′ bs′ →
-    Same (l receive) t → (s : ℕ) → (enter x l receive s ≡ runAt t′ s) × (enter x l transmit s ≡ l transmit s)
-held-matches l w st b as-was h x = (h x, refl)
-held-matches {t = t} l w st b (receives s n a k y f o m) h x = (taken-noted (l receive) h (taken-view w b ReceivedData s n a k o m) (λ i p q. free-at t s n i f p q) refl refl o x, refl)
-held-matches l w st b (finishes s y) h x = (freed-noted (l receive) h w b s (rw y) x, refl)
-held-matches {t = t} l w st b (stores s n a j name f o m lj z) h x = (taken-noted (l receive) h (taken-view w b StoredBinding s n a 0 o m) (λ i p q. free-at t s n i f p q) refl refl o x, refl)
+    Same (l receive) t → (s : ℕ) → enter x l receive s ≡ runAt t′ s
+held-matches l w st b as-was h x = h x
+held-matches {t = t} l w st b (receives s n a k y f o m) h x = taken-noted (l receive) h (taken-view w b ReceivedData s n a k o m) (λ i p q. free-at t s n i f p q) refl refl o x
+held-matches l w st b (finishes s y) h x = freed-noted (l receive) h w b s (rw y) x
+held-matches {t = t} l w st b (stores s n a j name f o m lj z) h x = taken-noted (l receive) h (taken-view w b StoredBinding s n a 0 o m) (λ i p q. free-at t s n i f p q) refl refl o x
 held-matches {bs = bs} l w st b (forgets j lj k) h x =
     let r = st .runs j k in
-    (rw (← (r .1)) (freed-noted (l receive) h w b (bindingOf bs j .start) (rw (r .0)) x), refl)
+    rw (← (r .1)) (freed-noted (l receive) h w b (bindingOf bs j .start) (rw (r .0)) x)
+
+-- a side is entered by what is on it
+enter-side : (d : Side) (x : RunChange) (l : Ledger) (s : ℕ) → enter x l d s ≡ enter (onSide d x) l d s
+enter-side d no-change l s = refl
+enter-side transmit (takes transmit y n) l s = refl
+enter-side transmit (takes receive y n) l s = refl
+enter-side transmit (trims transmit y n) l s = refl
+enter-side transmit (trims receive y n) l s = refl
+enter-side transmit (frees transmit y) l s = refl
+enter-side transmit (frees receive y) l s = refl
+enter-side receive (takes transmit y n) l s = refl
+enter-side receive (takes receive y n) l s = refl
+enter-side receive (trims transmit y n) l s = refl
+enter-side receive (trims receive y n) l s = refl
+enter-side receive (frees transmit y) l s = refl
+enter-side receive (frees receive y) l s = refl
 
 matches : {e e′ : End} {x : RunChange} (l : Ledger) → isOpen e ≡ true → Separate e → EndChange e x e′ → Matches l e → Matches (enter x l) e′
-unfolding changed
-matches l o w stays h d = h d
-matches l o w (writes x q) h transmit = h transmit
-matches l o w (writes x q) h receive = h receive
-matches l o w (reads x q) h transmit = h transmit
-matches l o w (reads x q) h receive = h receive
-matches {e} l o w (sends ps c q) h transmit = let z = sound e o in λ s. sent-matches l (w .sent) (omega (arith, leb-true)) c (h transmit) s .0
-matches {e} l o w (sends ps c q) h receive = let z = sound e o in λ s. sent-matches l (w .sent) (omega (arith, leb-true)) c (h transmit) s .1 ∙ h receive s
-matches {e} l o w (keeps ps c q) h transmit = let z = sound e o in λ s. held-matches l (w .held) (w .stored) (omega (arith, leb-true)) c (h receive) s .1 ∙ h transmit s
-matches {e} l o w (keeps ps c q) h receive = let z = sound e o in λ s. held-matches l (w .held) (w .stored) (omega (arith, leb-true)) c (h receive) s .0
+matches {e} {x = x} l o w m h transmit = let z = sound e o in λ s. enter-side transmit x l s ∙ sent-matches l (w .sent) (omega (arith, leb-true)) (m .sent) (h transmit) s
+matches {e} {x = x} l o w m h receive = let z = sound e o in λ s. enter-side receive x l s ∙ held-matches l (w .held) (w .stored) (omega (arith, leb-true)) (m .held) (h receive) s
 
 step-matches : (e : End) (c : Call) (l : Ledger) → Separate e → Matches l e → Matches (entered (e .tx) (e .rx) c (step e c .number) (step e c .given) l) (step e c .next)
 step-matches e c l w h d s = go (effect e c)
   where
     go : {f : Given → RunChange} {p : Part} {o : Outcome} → Effect f e p o → pick (eqb (o .number) 0) (enter (f (o .given)) l) l d s ≡ runAt (table d (o .next)) s
     go (refuses n q) = rw (ne-eqb n 0 (λ (z : n ≡ 0). omega (arith, leb-true 1 n q))) (h d s)
-    go (drops n i ws q o r) = matches l o w (reads i r) h d s
+    go (drops n i ws q o r) = matches l o w (reads-to e o i r) h d s
     go (accepts z o p m) = rw z (matches l o w m h d s)
 
 -- ---- a list of calls

@@ -1,5 +1,7 @@
-pub mod RulesRead
 pub mod Claims
+pub mod AllOrNothing
+pub mod BeforeRing
+pub mod RulesRead
 pub mod ArrivingBytes
 pub mod Effects
 pub mod Separate
@@ -16,6 +18,8 @@ pub mod Once
 pub mod Names
 pub mod Completion
 pub mod Writes
+pub mod RingAfter
+pub mod ReadApart
 pub mod NewerPartner
 pub mod NewerPartnerExample
 pub mod BenchCases

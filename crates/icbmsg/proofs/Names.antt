@@ -8,7 +8,7 @@ use native.Mathlib.Omega.{arith}
 use lib.Dec.{leb, ltb, eqb}
 use lib.ListN.{length, getD, set, replicate}
 use lib.Seq.{getD-set-same, getD-set-other}
-use borrow.Author.Tests.{eqb-true, leb-true, eq-eqb, ne-eqb, not-true}
+use borrow.Author.Tests.{eqb-true, leb-true, le-leb, eq-eqb, ne-eqb, not-true}
 use Rattle.wire.specs.Choice.{pick}
 use Rattle.wire.specs.Reads.{answer}
 use Rattle.wire.proofs.Choices.{both, and-false, or-true}
@@ -22,13 +22,13 @@ use Rattle.endpoints.specs.Endpoints.{uses, noEndpoint, noBinding, at, isUnused
 use Rattle.endpoints.proofs.Tests.{bound-is}
 use Rattle.icbmsg.specs.Ends.{isOpen, whole, foundOr, changed}
 use Rattle.icbmsg.specs.declared.Opening.{Opening}
-use Rattle.icbmsg.specs.Rings.{ringOf, pushOutcome, pullOutcome, pushOf, startOf}
+use Rattle.icbmsg.specs.Rings.{txRing, rxRing, pushOutcome, pullOutcome, startOf}
 use Rattle.icbmsg.specs.Messages.{reserveOf, roomOf, sendOf, dropOf, viewOf, doneOf, roomQuestion, viewQuestion}
 use Rattle.icbmsg.specs.Registering.{followed, initiates, registerOf}
 use Rattle.icbmsg.specs.Arrivals.{decode, fitsArea, areFree, receiver, releaseOf, releasedBoundOf, boundTo, boundNamed, boundRule, decodedRule, arrivalRule, dataRule}
 use Rattle.icbmsg.specs.declared.Control.{Control}
 use Rattle.icbmsg.specs.declared.Control.the-variants.{TooShort, UnknownKind, DataSent, DataReleased, BindingSent, BindingReleased}
-use Rattle.icbmsg.specs.Calls.{Call, start, push, pull, reserve, room, send, drop, arrival, view, done, register, askRoom, askView, rule, lent, step}
+use Rattle.icbmsg.specs.Calls.{Call, start, push, pull, reserve, room, send, drop, arrival, view, done, register, askRoom, askView, rule, readFrom, step}
 use Rattle.icbmsg.specs.Reading.{sizeIn, contentAt}
 use Rattle.blocks.specs.WellFormed.{leading, blockKind, Live}
 use Rattle.icbmsg.specs.WellFormed.{bindingOf, IsKept, Separate}
@@ -39,6 +39,8 @@ use Rattle.blocks.proofs.LeastBlocks.{blocks-least, blocks-one}
 use Rattle.blocks.proofs.Tables.{every, use-is, Taken, its-first, its-later, apart, Freed, gone, free-at, first-entry, freed-live, freed-stays, freed-view, freed-free, taken-stays, taken-view, free-law}
 use Rattle.icbmsg.proofs.ArrivingBytes.{withName, bound-flat, data-flat}
 use Rattle.blocks.specs.Names.{Name, endless, name, nameIn, paddedName}
+use Rattle.icbmsg.specs.Pushing.{Pushed, nothing-to-push, not-pushed, is-pushed}
+use Rattle.icbmsg.proofs.AllOrNothing.{push-answer, all-or-nothing}
 use Rattle.icbmsg.proofs.RulesRead.{pull-answer}
 use Rattle.blocks.proofs.Search.{first-at, lowest-at}
 use Rattle.icbmsg.proofs.Effects.{sound, whole-open}
@@ -403,6 +405,13 @@ module _ {e : End} (w : Separate e) (v : InvOf e) where
   pull-good true ws bs (ringDropped n i) = idle v refl refl
   pull-good false ws bs a = idle v refl refl
 
+  -- what is good before the ring is good behind it
+  pushed-good : {tx : List ℕ} {o o′ : Outcome} → Pushed e tx o o′ → Good e silent o → Good e silent o′
+  unfolding changed
+  pushed-good (nothing-to-push q) g = g
+  pushed-good (not-pushed c n q r l) g = refusal-good n (le-leb 1 n l)
+  pushed-good (is-pushed c k i q r) g = record { kept = g .kept; onward = record { in-use = g .onward .in-use; announced = g .onward .announced; sent-before = g .onward .sent-before } }
+
   -- messages
   reserve-good : (k : ℕ) → Good e silent (reserveOf e k)
   unfolding reserveOf changed
@@ -454,9 +463,9 @@ module _ {e : End} (w : Separate e) (v : InvOf e) where
       checked (starts Reserved (e .tx .«block_count») (e .sent) s) 25 refl λ h.
       quiet (λ _. (refl, refl)) (freed-sent Reserved s o refl refl h) refl (freed-before Reserved s o refl h) (freed-keeps Reserved s o refl refl h)
 
-  done-good : (s : ℕ) → Good e silent (doneOf e s)
+  done-good : (n s : ℕ) → Good e silent (doneOf e n s)
   unfolding doneOf changed
-  done-good s = checked (isOpen e) 6 refl λ _. checked (startsData (e .rx .«block_count») (e .rx .«block_size») (e .held) s) 25 refl λ _. idle v refl refl
+  done-good n s = checked (whole e (e .tx) n) 6 refl λ _. checked (startsData (e .rx .«block_count») (e .rx .«block_size») (e .held) s) 25 refl λ _. idle v refl refl
 
   room-good : (n s : ℕ) → Good e silent (roomOf e n s)
   unfolding roomOf
@@ -760,20 +769,22 @@ module _ {e : End} (w : Separate e) (v : InvOf e) where
 
   -- each call
   step-good : (c : Call) → Good e (λ g. arrives g c) (step e c)
-  unfolding arrives step rule lent arrivalRule startOf pushOf
-  step-good (start tx) = let o : RingOutcome = ringStart (length tx) (ringOf (e .alignment) (e .tx)) in push-good (whole e (e .tx) (length tx)) (o .region) (o .answer)
-  step-good (push tx c) = let o : RingOutcome = ringPush tx (ringOf (e .alignment) (e .tx)) (e .write) c in push-good (whole e (e .tx) (length tx)) (o .region) (o .answer)
+  unfolding arrives step rule readFrom arrivalRule startOf
+  step-good (start tx) = let o : RingOutcome = ringStart (length tx) (txRing e) in push-good (whole e (e .tx) (length tx)) (o .region) (o .answer)
+  step-good (push tx c) =
+      let o : RingOutcome = ringPush tx (txRing e) (e .write) c in
+      rw (push-answer e c tx) (push-good (whole e (e .tx) (length tx)) (o .region) (o .answer))
   step-good (pull rx b) =
-      let o : RingOutcome = answer (ringPull (length rx) (ringOf (e .alignment) (e .rx)) (e .read) (length b)) rx in
+      let o : RingOutcome = answer (ringPull (length rx) (rxRing e) (e .read) (length b)) rx in
       rw (pull-answer e (length rx) (length b) rx) (pull-good (whole e (e .rx) (length rx)) (o .region) (o .buffer) (o .answer))
   step-good (reserve k) = reserve-good k
   step-good (room tx s) = room-good (length tx) s
-  step-good (send tx s a k) = send-good (length tx) s a k
+  step-good (send tx s a k) = pushed-good (all-or-nothing e tx (sendOf e (length tx) s a k)) (send-good (length tx) s a k)
   step-good (drop s) = drop-good s
   step-good (arrival rx m) = arrival-good (whole e (e .rx) (length rx)) (decode m) rx (whole-open e (e .rx) (length rx))
   step-good (view rx s) = view-good (length rx) s
-  step-good (done s) = done-good s
-  step-good (register tx n) = register-good (length tx) n
+  step-good (done tx s) = pushed-good (all-or-nothing e tx (doneOf e (length tx) s)) (done-good (length tx) s)
+  step-good (register tx n) = pushed-good (all-or-nothing e tx (registerOf e (length tx) n)) (register-good (length tx) n)
   step-good (askRoom s n) = roomQuestion-good s n
   step-good (askView s n) = viewQuestion-good s n
 

@@ -17,7 +17,7 @@ use Rattle.icbmsg.specs.Opening.{opening}
 use Rattle.icbmsg.specs.Messages.{viewOf}
 use Rattle.icbmsg.specs.Arrivals.{decode, arrivalRule, boundRule, boundSized, boundNamed, upToZero, areFree}
 use Rattle.icbmsg.specs.declared.Control.the-variants.{UnknownKind}
-use Rattle.icbmsg.specs.Calls.{Call, pull, arrival, rule, lent, step, run}
+use Rattle.icbmsg.specs.Calls.{Call, pull, arrival, rule, readFrom, step, run}
 use Rattle.icbmsg.specs.Reading.{reading, sizeIn, contentAt}
 use Rattle.icbmsg.specs.NewerPartner.{Grown, Change, unchanged, longer, grown, pulls, arrives, views, both, Unknown, unknown-kind, Item, keep, insert, firstCalls, secondCalls, Allowed, ignored, withIgnored, NewerPartner}
 use Rattle.wire.proofs.Trees.{same-answer}
@@ -25,10 +25,10 @@ use Rattle.blocks.proofs.LeastBlocks.{fits-too}
 use Rattle.icbmsg.proofs.RulesRead.{rules-read}
 use Rattle.icbmsg.specs.End.{End}
 
--- receive bytes that are not read
-others : (e : End) (c : Call) (t′ : Rule) (r′ : List ℕ) → t′ ≡ rule e c → Agree (reading e c) (lent c .rx) r′ → answer t′ r′ ≡ answer (rule e c) (lent c .rx)
+-- bytes that are not read
+others : (e : End) (c : Call) (t′ : Rule) (r′ : List ℕ) → t′ ≡ rule e c → Agree (reading e c) (readFrom c) r′ → answer t′ r′ ≡ answer (rule e c) (readFrom c)
 others e c t′ r′ q h =
-    rw q (sym (same-answer (rule e c) (lent c .rx) r′ (subst (λ (ps : List ℕ). Agree ps (lent c .rx) r′) (sym (rules-read e c)) h)))
+    rw q (sym (same-answer (rule e c) (readFrom c) r′ (subst (λ (ps : List ℕ). Agree ps (readFrom c) r′) (sym (rules-read e c)) h)))
 
 -- more bytes behind three
 decode-longer : (m more : List ℕ) → 3 ≤ length m → decode (m ++ more) ≡ decode m
@@ -92,7 +92,7 @@ same-bound e a b {r} {r′} g =
     (record { is = sized e a b (sizeIn e b r) (sizeIn e b r′) (g .zeroAt) (g .fitting) (fits-too (e .rx .«block_size») (sizeIn e b r) (sizeIn e b r′) (e .rx .«block_count» - b) (g .fitting) (g .blocks)) (g .blocks) (g .larger) (g .inside) (g .early) (g .ended) (g .stays) .is })))
 
 same-step : (e : End) {c d : Call} → Change e c d → step e d ≡ step e c
-unfolding step rule lent arrivalRule viewOf
+unfolding step rule readFrom arrivalRule viewOf
 same-step e unchanged = refl
 same-step e (longer {m = m} more h) = rw (decode-longer m more h)
 same-step e (grown {r = r} {r′ = r′} {m = m} a b q g) =
@@ -109,7 +109,7 @@ decode-unknown k (a ∷ []) h = rw (lt-ltb 3 k h)
 decode-unknown k (a ∷ b ∷ m) h = rw (lt-ltb 3 k h)
 
 insert-step : (e : End) {d : Call} → Unknown e d → step e d ≡ ignored e
-unfolding step rule lent arrivalRule
+unfolding step rule readFrom arrivalRule
 insert-step e (unknown-kind {rx = rx} {m = m} k hk hw) = go (isOpen e) refl
   where
     go : (o : Bool) → isOpen e ≡ o → step e (arrival rx (k ∷ m)) ≡ ignored e

@@ -8,16 +8,16 @@ use lib.ListN.{getD}
 use Rattle.wire.specs.Bytes.{littleEndian, fromLittleEndian, bytes, writes, wrote, same}
 use Rattle.region.specs.Layout.{isAlignment, isBlockCount, areBounds, roundDown, roundUp, ringMinimum, alignedSize, blockSizeOf, fitted, layout}
 use Rattle.icmsg.specs.Ring.{indexAt, inRule, isSound, used, packetLength, packet, contentLength, behind}
-use Rattle.icmsg.specs.Rules.{fitNumber, pushNumber, pushWrites, pushRule as ringPush, startRule as ringStart, lookAt, lookRule, readTo, takeRule, pullRule as ringPull}
+use Rattle.icmsg.specs.Rules.{fitNumber, pushNumber, pushWrites, pushTree as ringPush, startRule as ringStart, lookAt, lookRule, readTo, takeRule, pullRule as ringPull}
 use Rattle.blocks.specs.Tables.{allFree, fill, lowest, blocksFor, freeRun}
 use Rattle.endpoints.specs.Endpoints.{unusedFrom, goodName}
 use Rattle.icbmsg.specs.Ends.{isOpen, changed}
 use Rattle.icbmsg.specs.Opening.{opening}
-use Rattle.icbmsg.specs.Rings.{pushOf, startOf, pullRule}
+use Rattle.icbmsg.specs.Rings.{startOf, pullRule, allOrNothing}
 use Rattle.icbmsg.specs.Messages.{viewOf, doneOf}
 use Rattle.icbmsg.specs.Registering.{initiates, registerOf}
 use Rattle.icbmsg.specs.Arrivals.{boundNamed, boundSized, boundRule, arrivalRule, dataRule}
-use Rattle.icbmsg.specs.Calls.{rule, lent, step}
+use Rattle.icbmsg.specs.Calls.{rule, readFrom, step}
 use Rattle.icbmsg.specs.Reading.{reading, contentAt}
 use Rattle.icbmsg.specs.NewerPartner.{Grown, unchanged, longer, grown, pulls, arrives, views, both, unknown-kind}
 use Rattle.icbmsg.specs.BenchCases.{follower}
@@ -25,7 +25,7 @@ use Rattle.icbmsg.specs.NewerPartnerExample.{binding, grownBinding, mess
 
 -- the binding's own bytes stay
 own-bytes : (i : ℕ) → i < 8 → getD grownBinding (contentAt follower 0 + i) 0 ≡ getD binding (contentAt follower 0 + i) 0
-unfolding binding grownBinding wrote writes littleEndian same isAlignment isBlockCount areBounds roundDown roundUp ringMinimum alignedSize blockSizeOf fitted layout inRule blocksFor allFree fill lowest freeRun unusedFrom goodName isOpen changed opening initiates registerOf rule lent step
+unfolding binding grownBinding wrote writes littleEndian fromLittleEndian same isAlignment isBlockCount areBounds roundDown roundUp ringMinimum alignedSize blockSizeOf fitted layout inRule isSound used packetLength packet behind pushWrites ringPush blocksFor allFree fill lowest freeRun unusedFrom goodName isOpen changed opening initiates registerOf allOrNothing rule readFrom step
 own-bytes zero h = refl
 own-bytes (suc zero) h = refl
 own-bytes (suc (suc zero)) h = refl
@@ -37,7 +37,7 @@ own-bytes (suc (suc (suc (suc (suc (suc (suc zero))))))) h = refl
 own-bytes (suc (suc (suc (suc (suc (suc (suc (suc i)))))))) h = absurd (omega arith)
 
 really-grown : Grown follower 0 binding grownBinding
-unfolding binding grownBinding wrote writes littleEndian fromLittleEndian same isAlignment isBlockCount areBounds roundDown roundUp ringMinimum alignedSize blockSizeOf fitted layout inRule blocksFor allFree fill lowest freeRun unusedFrom goodName isOpen changed opening initiates registerOf rule lent step
+unfolding binding grownBinding wrote writes littleEndian fromLittleEndian same isAlignment isBlockCount areBounds roundDown roundUp ringMinimum alignedSize blockSizeOf fitted layout inRule isSound used packetLength packet behind pushWrites ringPush blocksFor allFree fill lowest freeRun unusedFrom goodName isOpen changed opening initiates registerOf allOrNothing rule readFrom step
 really-grown =
     record {
       lent = refl;
@@ -54,7 +54,7 @@ really-grown =
     }
 
 pub changes-can-come : ChangesCanCome
-unfolding changedCalls binding grownBinding message otherMessage started otherStarted wrote writes littleEndian fromLittleEndian bytes same isAlignment isBlockCount areBounds roundDown roundUp ringMinimum alignedSize blockSizeOf fitted layout indexAt inRule isSound used packetLength packet contentLength behind fitNumber pushNumber pushWrites ringPush ringStart lookAt lookRule readTo takeRule ringPull blocksFor allFree fill lowest freeRun unusedFrom goodName isOpen changed opening pushOf startOf pullRule viewOf doneOf initiates registerOf boundNamed boundSized boundRule dataRule arrivalRule rule lent step reading
+unfolding changedCalls binding grownBinding message otherMessage started otherStarted wrote writes littleEndian fromLittleEndian bytes same isAlignment isBlockCount areBounds roundDown roundUp ringMinimum alignedSize blockSizeOf fitted layout indexAt inRule isSound used packetLength packet contentLength behind fitNumber pushNumber pushWrites ringPush ringStart lookAt lookRule readTo takeRule ringPull blocksFor allFree fill lowest freeRun unusedFrom goodName isOpen changed opening startOf pullRule allOrNothing viewOf doneOf initiates registerOf boundNamed boundSized boundRule dataRule arrivalRule rule readFrom step reading
 changes-can-come = (
   unknown-kind 200 (lit< tt) (λ _. refl),
   (

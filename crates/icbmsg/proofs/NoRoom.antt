@@ -8,6 +8,8 @@ use lib.Dec.{leb}
 use lib.ListN.{length}
 use borrow.Author.Tests.{leb-true, leb-false, le-leb, not-true}
 use Rattle.wire.specs.Choice.{pick}
+use Rattle.wire.specs.Reads.{answer}
+use Rattle.icmsg.proofs.Indexes.{push-refused-low}
 use Rattle.blocks.specs.Search.{Search, nowhere, foundAt}
 use Rattle.blocks.specs.Tables.{allFree, freeRun}
 use Rattle.blocks.proofs.LeastBlocks.{blocks-hold, blocks-least, blocks-one}
@@ -16,11 +18,14 @@ use Rattle.blocks.proofs.Tables.{free-at, all-free}
 use Rattle.endpoints.specs.Endpoints.{at, isUnused, registered, endpointAt, bindingAt, someEndpoint, unusedFrom, holds, goodName}
 use Rattle.icbmsg.specs.Outcome.{Outcome, check}
 use Rattle.icbmsg.specs.Ends.{isOpen, whole, foundOr}
+use Rattle.icbmsg.specs.Rings.{txRing, allOrNothing}
 use Rattle.icbmsg.specs.Messages.{need, reserving, reservation, reserveOf}
 use Rattle.icbmsg.specs.Registering.{announcement, followed, initiates, registerOf}
-use Rattle.icbmsg.specs.Calls.{reserve, register, rule, lent, step}
+use Rattle.icbmsg.specs.Calls.{reserve, register, rule, readFrom, step}
 use Rattle.icbmsg.specs.Theorems.{FreeRun, Crowded, Reserves, too-long, no-room, at-lowest, Registers, NeedLeast, ReserveSays, NoRoom}
+use Rattle.icbmsg.specs.Pushing.{Pushed, nothing-to-push, not-pushed, is-pushed}
 use Rattle.icbmsg.specs.End.{End}
+use Rattle.icbmsg.proofs.AllOrNothing.{all-or-nothing}
 use Rattle.icbmsg.proofs.Claims.{Claim, past, past-found}
 use Rattle.icbmsg.proofs.Effects.{sound, whole-open}
 
@@ -58,28 +63,36 @@ module _ (e : End) (k : ℕ) (open-end : isOpen e ≡ true) where
 
 -- ---- register: at an open end, past its checks, it reserves
 
-register-reserves : (e : End) (tx n : List ℕ) (i : ℕ) → Registers e tx n i → step e (register tx n) ≡ initiates e n i
-unfolding step rule lent registerOf
+register-reserves : (e : End) (tx n : List ℕ) (i : ℕ) → Registers e tx n i → registerOf e (length tx) n ≡ initiates e n i
+unfolding registerOf
 register-reserves e tx n i h = rw (h .lent, h .name, h .unregistered, h .place, h .initiator)
 
+-- the ring does not come before 23 and 24
+reserves-first : {e : End} {k : ℕ} {f : ℕ → Outcome} {x : Outcome} (tx : List ℕ) → Reserves e k f x →
+    Reserves e k (λ s. answer (allOrNothing e (length tx) (f s)) tx) (answer (allOrNothing e (length tx) x) tx)
+unfolding allOrNothing
+reserves-first tx (too-long l) = too-long l
+reserves-first tx (no-room c) = no-room c
+reserves-first tx (at-lowest s l r m) = at-lowest s l r m
+
 pub reserve-says : ReserveSays
-unfolding step rule lent reserveOf initiates
+unfolding step rule readFrom reserveOf initiates
 reserve-says =
     record {
       reserve = λ e k o. rw o (reserves e k o (reservation e k));
       register = λ e tx n i h.
           rw (register-reserves e tx n i h)
-          (reserves e (length n + 1) (whole-open e (e .tx) (length tx) (h .lent)) (announcement e n i (unusedFrom 8 0 (e .endpoints))));
+          (reserves-first tx (reserves e (length n + 1) (whole-open e (e .tx) (length tx) (h .lent)) (announcement e n i (unusedFrom 8 0 (e .endpoints)))));
     }
 
 -- ---- 24
 
--- the number of what reserving gives, where an accepted call's is 0
-module _ {e : End} {k : ℕ} {f : ℕ → Outcome} (z : (s : ℕ) → f s .number ≡ 0) where
-  is-crowded : {x : Outcome} → Reserves e k f x → x .number ≡ 24 → Crowded e k
-  is-crowded (too-long l) h = absurd (omega arith)
-  is-crowded (no-room c) h = c
-  is-crowded (at-lowest s l r m) h = absurd (omega (arith, z s))
+-- the number of what reserving gives
+module _ {e : End} {k : ℕ} {f : ℕ → Outcome} where
+  is-crowded : {x : Outcome} → ((s : ℕ) → f s .number ≡ 0) → Reserves e k f x → x .number ≡ 24 → Crowded e k
+  is-crowded z (too-long l) h = absurd (omega arith)
+  is-crowded z (no-room c) h = c
+  is-crowded z (at-lowest s l r m) h = absurd (omega (arith, z s))
 
   crowded-is : {x : Outcome} → Reserves e k f x → Crowded e k → x .number ≡ 24
   crowded-is (too-long l) c = absurd (omega (arith, c .could-fit))
@@ -95,11 +108,11 @@ follower-not e n i nowhere = record { holds = λ h. absurd (omega arith) }
 follower-not e n i (foundAt j) = record { holds = λ h. absurd (omega arith) }
 
 reserve-24 : (e : End) (k : ℕ) → Claim (Tells ((isOpen e ≡ true) × Crowded e k)) (step e (reserve k))
-unfolding step rule lent reserveOf
+unfolding step rule readFrom reserveOf
 reserve-24 e k = past e (isOpen e) 6 (λ d. absurd (omega arith)) λ o. record { holds = λ h. (o, is-crowded (λ s. refl) (reserves e k o (reservation e k)) h) }
 
-register-24 : (e : End) (tx n : List ℕ) → Claim (Tells ((i : ℕ) × Registers e tx n i × Crowded e (length n + 1))) (step e (register tx n))
-unfolding step rule lent registerOf initiates
+register-24 : (e : End) (tx n : List ℕ) → Claim (Tells ((i : ℕ) × Registers e tx n i × Crowded e (length n + 1))) (registerOf e (length tx) n)
+unfolding registerOf initiates
 register-24 e tx n =
     past e (whole e (e .tx) (length tx)) 6 (λ d. absurd (omega arith)) λ w.
     past e (goodName 31 n) 20 (λ d. absurd (omega arith)) λ g.
@@ -113,9 +126,19 @@ register-24 e tx n =
     go true i r k o = record { holds = λ h. (i, k r, is-crowded (λ s. refl) (reserves e (length n + 1) o (announcement e n i (unusedFrom 8 0 (e .endpoints)))) h) }
     go false i r k o = follower-not e n i (bindingAt (holds (e .rx .«block_count») n) (e .bindings))
 
+-- the ring never answers 24
+pushed-tells : {A : Type 0} {e : End} {tx : List ℕ} {o o′ : Outcome} → Pushed e tx o o′ → Tells A o → Tells A o′
+pushed-tells (nothing-to-push q) k h = k h
+pushed-tells {e = e} {tx = tx} (not-pushed c n q r l) k h = absurd (omega (arith, push-refused-low tx (txRing e) (e .write) c n r, h))
+pushed-tells (is-pushed c m i q r) k h = k h
+
 pub no-room-exactly : NoRoom
+unfolding step rule readFrom
 no-room-exactly =
     record {
-      reserve = λ e k. (reserve-24 e k .holds, λ h. crowded-is (λ s. refl) (reserve-says .reserve e k (h .0)) (h .1));
-      register = λ e tx n. (register-24 e tx n .holds, λ h. crowded-is (λ s. refl) (reserve-says .register e tx n (h .0) (h .1)) (h .2));
+      reserve = λ e k. (reserve-24 e k .holds, λ h. crowded-is (reserve-says .reserve e k (h .0)) (h .1));
+      register = λ e tx n. (
+        pushed-tells (all-or-nothing e tx (registerOf e (length tx) n)) (register-24 e tx n .holds),
+        λ h. crowded-is (reserve-says .register e tx n (h .0) (h .1)) (h .2),
+      );
     }

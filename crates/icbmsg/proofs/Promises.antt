@@ -5,6 +5,7 @@ use Rattle.icmsg.proofs.RoundTrip.{push-and-pull, push-keeps-what-is-unread}
 use Rattle.icmsg.proofs.NeverJams.{never-jams}
 use Rattle.icmsg.proofs.WritesInside.{writes-inside}
 use Rattle.icmsg.proofs.PullReads.{pull-reads-what-is-listed}
+use Rattle.icmsg.proofs.PushReads.{push-reads-the-index}
 use Rattle.icbmsg.specs.Promises.{Promises}
 use Rattle.icbmsg.proofs.RulesRead.{rules-read}
 use Rattle.icbmsg.proofs.Separate.{separate, disjoint, covered}
@@ -13,6 +14,9 @@ use Rattle.icbmsg.proofs.Places.{parts-inside, parts-apart}
 use Rattle.icbmsg.proofs.Writes.{writes-stay-inside}
 use Rattle.icbmsg.proofs.Refusals.{refusals, numbers-stay, open-stays, open-after}
 use Rattle.icbmsg.proofs.ClosedEnds.{closed-six}
+use Rattle.icbmsg.proofs.AllOrNothing.{all-or-nothing}
+use Rattle.icbmsg.proofs.RingAfter.{ring-after}
+use Rattle.icbmsg.proofs.ReadApart.{read-apart}
 use Rattle.icbmsg.proofs.Ledger.{by-history}
 use Rattle.icbmsg.proofs.NothingAdded.{nothing-added}
 use Rattle.icbmsg.proofs.NoRoom.{need-least, reserve-says, no-room-exactly}
@@ -47,6 +51,8 @@ promises =
       unread-kept = push-keeps-what-is-unread;
       never-jams = never-jams;
       ring-writes = writes-inside;
+      all-or-nothing = all-or-nothing;
+      ring-after = ring-after;
       by-history = by-history;
       nothing-added = nothing-added;
       need-least = need-least;
@@ -57,6 +63,8 @@ promises =
       binding-completes = binding-completes;
       data-reaches = data-reaches;
       pull-reads = pull-reads-what-is-listed;
+      push-reads = push-reads-the-index;
+      read-apart = read-apart;
       rules-read = rules-read;
       newer-partner = newer-partner;
       changes-can-come = changes-can-come;

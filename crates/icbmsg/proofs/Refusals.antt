@@ -14,14 +14,14 @@ use Rattle.icmsg.specs.declared.Ring.{Ring}
 use Rattle.icmsg.proofs.Indexes.{refusals as ring-refusals}
 use Rattle.blocks.proofs.Tables.{each}
 use Rattle.icbmsg.specs.Outcome.{Given, Outcome, refusedWith, ringRefused, droppedTo}
-use Rattle.icbmsg.specs.Ends.{soundEnd, isOpen, whole, changed, withWrite, withRead}
-use Rattle.icbmsg.specs.Rings.{ringOf, pulled}
+use Rattle.icbmsg.specs.Ends.{soundNumbers, isOpen, whole, withRead}
+use Rattle.icbmsg.specs.Rings.{rxRing, pulled}
 use Rattle.icbmsg.specs.Opening.{opening}
-use Rattle.icbmsg.specs.Calls.{Call, rule, lent, step, left}
+use Rattle.icbmsg.specs.Calls.{Call, rule, readFrom, step, left}
 use Rattle.icbmsg.specs.Ledger.{RunChange}
 use Rattle.icbmsg.specs.Theorems.{refusedGiven, Part, pull-part, SameNumbers, Refusals, NumbersStay, OpenStays, OpenExactly}
 use Rattle.icbmsg.specs.End.{End}
-use Rattle.icbmsg.proofs.Effects.{EndChange, stays, writes, reads, sends, keeps, Effect, refuses, drops, accepts, sound, effect}
+use Rattle.icbmsg.proofs.Effects.{EndChange, same-numbers, reads-to, Effect, refuses, drops, accepts, sound, effect}
 use Rattle.icbmsg.proofs.RulesRead.{number-pulled, pull-answer}
 use Rattle.icbmsg.proofs.OpenEnds.{open-exactly}
 
@@ -37,12 +37,12 @@ breaks e true g o n i f h = ap (pulled e) (f (sym (number-pulled e (o .region) (
 breaks e false g o n i f h = absurd (omega (arith, h))
 
 pub refusals : Refusals
-unfolding step rule lent
+unfolding step rule readFrom
 refusals =
     record {
       plain = λ e c d k. plainly (effect e c) d k;
       broken = λ e rx b h.
-          let g : Ring = ringOf (e .alignment) (e .rx) in
+          let g : Ring = rxRing e in
           let w : ℕ = indexAt rx (writeIndexAt g) in
           let o : RingOutcome = answer (ringPull (length rx) g (e .read) (length b)) rx in
           rw (pull-answer e (length rx) (length b) rx)
@@ -52,33 +52,20 @@ refusals =
 
 -- ---- open ends
 
-moved-numbers : {e e′ : End} {d : RunChange} → EndChange e d e′ → SameNumbers e e′
-unfolding changed
-moved-numbers stays = record { initiator = refl; alignment = refl; tx = refl; rx = refl }
-moved-numbers (writes w h) = record { initiator = refl; alignment = refl; tx = refl; rx = refl }
-moved-numbers (reads r h) = record { initiator = refl; alignment = refl; tx = refl; rx = refl }
-moved-numbers (sends ps h q) = record { initiator = refl; alignment = refl; tx = refl; rx = refl }
-moved-numbers (keeps ps h q) = record { initiator = refl; alignment = refl; tx = refl; rx = refl }
-
 pub numbers-stay : NumbersStay
 numbers-stay e c = go (effect e c)
   where
     go : {f : Given → RunChange} {p : Part} {o : Outcome} → Effect f e p o → SameNumbers e (o .next)
-    go (refuses n h) = moved-numbers stays
-    go (drops n i ws q o r) = moved-numbers (reads i r)
-    go (accepts z o p m) = moved-numbers m
+    go (refuses n h) = same-numbers
+    go (drops n i ws q o r) = reads-to e o i r .numbers
+    go (accepts z o p m) = m .numbers
 
-moved-open : {e e′ : End} {d : RunChange} → EndChange e d e′ → isOpen e ≡ true → isOpen e′ ≡ true
-unfolding changed isOpen
-moved-open stays o = o
-moved-open {e} (writes w h) o =
+pub moved-open : {e e′ : End} {d : RunChange} → EndChange e d e′ → isOpen e ≡ true → isOpen e′ ≡ true
+unfolding isOpen
+moved-open {e} {e′} m o =
     let z = sound e o in
-    each (soundEnd (withWrite e w)) (z .0, (z .1 .0, (z .1 .1 .0, (h, z .1 .1 .1 .1))))
-moved-open {e} (reads r h) o =
-    let z = sound e o in
-    each (soundEnd (withRead e r)) (z .0, (z .1 .0, (z .1 .1 .0, (z .1 .1 .1 .0, (h, z .1 .1 .1 .1 .1)))))
-moved-open (sends ps h q) o = o
-moved-open (keeps ps h q) o = o
+    let n = m .numbers in
+    rw (n .alignment, n .tx, n .rx) (each (soundNumbers (e .alignment) (e .tx) (e .rx) (e′ .write) (e′ .read)) (z .0, (z .1 .0, (z .1 .1 .0, (m .writes, (m .reads, z .1 .1 .1 .1 .1))))))
 
 -- every call keeps an end open, or closed
 pub open-stays : OpenStays
@@ -86,7 +73,7 @@ open-stays e c = go (effect e c)
   where
     go : {f : Given → RunChange} {p : Part} {o : Outcome} → Effect f e p o → isOpen (o .next) ≡ isOpen e
     go (refuses n h) = refl
-    go (drops n i ws q o r) = moved-open (reads i r) o ∙ sym o
+    go (drops n i ws q o r) = moved-open (reads-to e o i r) o ∙ sym o
     go (accepts z o p m) = moved-open m o ∙ sym o
 
 -- OPEN. After any calls an end is open exactly if its opening was accepted.

@@ -1,29 +1,35 @@
--- Every rule asks for just the receive bytes that are listed.
-use Prim.Native.Nat.{ℕ, zero, suc, min}
+-- Every rule asks for just the bytes that are listed.
+use Prim.Native.Nat.{ℕ, zero, suc, _+_, _-_, min}
 use mathlib.Core.Bool.{Bool, true, false, not, _&&_}
 use mathlib.Core.Path.{_≡_, refl, ap, _∙_}
 use mathlib.Core.List.{List, [], _∷_, _++_, append-nil}
 use lib.Dec.{leb, ltb, eqb}
 use lib.ListN.{length, getD}
-use Rattle.wire.specs.Choice.{pick}
+use Rattle.wire.specs.Choice.{pick, passed, check as tested}
+use Rattle.wire.specs.Bytes.{bytes}
 use Rattle.wire.specs.Reads.{Reads, gives, answer, positionsRead, andThen}
-use Rattle.icmsg.specs.Rules.{Answer, refused, accepted, dropped, answerNumber, Outcome as RingOutcome, pullRule as ringPull}
-use Rattle.icmsg.specs.Reading.{past, pullReads, isOneOf}
+use Rattle.icmsg.specs.Ring.{readIndexAt, indexAt, inRule, isSound, used, packetLength}
+use Rattle.icmsg.specs.Rules.{Answer, refused, accepted, dropped as ringDropped, answerNumber, Outcome as RingOutcome, refusal, pushed as ringPushed, pushTree as ringPush, pullRule as ringPull}
+use Rattle.icmsg.specs.Reading.{past, partnerIndex, pullReads, isOneOf}
 use Rattle.icmsg.specs.declared.Ring.{Ring}
 use Rattle.icmsg.proofs.PullReads.{pull-reads-what-is-listed}
-use Rattle.icbmsg.specs.Outcome.{Outcome, ringRefused, Rule, check, guard}
+use Rattle.icmsg.proofs.PushReads.{push-reads-the-index}
+use Rattle.icbmsg.specs.Outcome.{Given, nothing, aLength, dropped, aRun, control, delivery, Outcome, ringRefused, Rule, check, guard}
 use Rattle.blocks.specs.Search.{Search, nowhere, foundAt, isFound}
 use Rattle.blocks.specs.Tables.{blocksFor}
 use Rattle.endpoints.specs.Endpoints.{endpointAt, bindingAt, someEndpoint, someBinding, clashes, clashesStored, waitingFor}
 use Rattle.blocks.specs.Names.{paddedName}
 use Rattle.icbmsg.specs.Ends.{whole, foundOr}
-use Rattle.icbmsg.specs.Rings.{ringOf, pullOutcome, pulled, pullRule}
+use Rattle.icbmsg.specs.Rings.{txRing, rxRing, pushOutcome, pushed, pushRule, pullOutcome, pulled, pullRule, handedOn, pushing, allOrNothing}
 use Rattle.icbmsg.specs.Arrivals.{decode, headerAt, decodedRule, arrivalRule, boundRule, boundSized, boundNamed, upToZero, fitsArea, areFree, receiver, boundTo, bindingStored, dataRule}
 use Rattle.icbmsg.specs.declared.Control.{Control}
 use Rattle.icbmsg.specs.declared.Control.the-variants.{TooShort, UnknownKind, DataSent, DataReleased, BindingSent, BindingReleased}
-use Rattle.icbmsg.specs.Calls.{start, push, pull, reserve, room, send, drop, arrival, view, done, register, askRoom, askView, rule, lent, step}
-use Rattle.icbmsg.specs.Reading.{sizeIn, contentAt, zeroEnded, arrivalReads, reading, RulesRead}
+use Rattle.icbmsg.specs.Calls.{start, push, pull, reserve, room, send, drop, arrival, view, done, register, askRoom, askView, rule, readFrom, step}
+use Rattle.icbmsg.specs.Reading.{sizeIn, contentAt, zeroEnded, arrivalReads, pushReads, ofPush, reading, RulesRead}
+use Rattle.icbmsg.specs.Messages.{sendOf, doneOf}
+use Rattle.icbmsg.specs.Registering.{registerOf}
 use Rattle.icbmsg.specs.End.{End}
+use Rattle.icbmsg.proofs.BeforeRing.{ring-sound, BeforeRing, send-before, done-before, register-before}
 use Rattle.wire.proofs.Trees.{answer-unless, answer-readEach, answer-andThen, positionsRead-unless, positionsRead-andThen}
 
 positionsRead-guard : (b : Bool) (n : ℕ) (e : End) (t : Rule) (r : List ℕ) → positionsRead (guard b n e t) r ≡ pick b (positionsRead t r) []
@@ -45,14 +51,14 @@ positionsRead-map t f r = positionsRead-andThen t (λ a. gives (f a)) r ∙ appe
 pub number-pulled : (e : End) (ws bs : List (ℕ × ℕ)) (a : Answer) → pullOutcome e ws bs a .number ≡ answerNumber a
 number-pulled e ws bs (refused n) = refl
 number-pulled e ws bs (accepted k i) = refl
-number-pulled e ws bs (dropped n i) = refl
+number-pulled e ws bs (ringDropped n i) = refl
 
-pub pull-answer : (e : End) (n b : ℕ) (r : List ℕ) → answer (pullRule e n b) r ≡ pick (whole e (e .rx) n) (pulled e (answer (ringPull n (ringOf (e .alignment) (e .rx)) (e .read) b) r)) (ringRefused e 6)
+pub pull-answer : (e : End) (n b : ℕ) (r : List ℕ) → answer (pullRule e n b) r ≡ pick (whole e (e .rx) n) (pulled e (answer (ringPull n (rxRing e) (e .read) b) r)) (ringRefused e 6)
 unfolding pullRule
 pull-answer e n b r = simp (answer-unless, answer-andThen)
 
 -- the tree, with the test that the slice is whole apart
-pull-asks : (e : End) (n b : ℕ) (r : List ℕ) → positionsRead (pullRule e n b) r ≡ pick (whole e (e .rx) n) (positionsRead (ringPull n (ringOf (e .alignment) (e .rx)) (e .read) b) r) []
+pull-asks : (e : End) (n b : ℕ) (r : List ℕ) → positionsRead (pullRule e n b) r ≡ pick (whole e (e .rx) n) (positionsRead (ringPull n (rxRing e) (e .read) b) r) []
 unfolding pullRule
 pull-asks e n b r = simp (positionsRead-unless, positionsRead-map)
 
@@ -62,11 +68,63 @@ pull-cases e true g i b r ps o h = rw (number-pulled e (o .region) (o .buffer) (
 pull-cases e false g i b r ps o h = refl
 
 pull-reads : (e : End) (r b : List ℕ) → positionsRead (rule e (pull r b)) r ≡ reading e (pull r b)
-unfolding rule lent step reading
+unfolding rule readFrom step reading
 pull-reads e r b =
     rw (pull-answer e (length r) (length b) r, pull-asks e (length r) (length b) r)
-    (pull-cases e (whole e (e .rx) (length r)) (ringOf (e .alignment) (e .rx)) (e .read) (length b) r _ (answer (ringPull (length r) (ringOf (e .alignment) (e .rx)) (e .read) (length b)) r)
-    (pull-reads-what-is-listed (length r) (ringOf (e .alignment) (e .rx)) (e .read) (length b) r))
+    (pull-cases e (whole e (e .rx) (length r)) (rxRing e) (e .read) (length b) r _ (answer (ringPull (length r) (rxRing e) (e .read) (length b)) r)
+    (pull-reads-what-is-listed (length r) (rxRing e) (e .read) (length b) r))
+
+-- push: what the ring reads, past 6
+number-pushed : (e : End) (ws : List (ℕ × ℕ)) (a : Answer) → pushOutcome e ws a .number ≡ answerNumber a
+number-pushed e ws (refused n) = refl
+number-pushed e ws (accepted k i) = refl
+number-pushed e ws (ringDropped n i) = refl
+
+push-cases : (e : End) (w : Bool) (ps qs : List ℕ) (o : RingOutcome) → ps ≡ past (6 ∷ 11 ∷ []) (answerNumber (o .answer)) qs →
+    pick w ps [] ≡ past (6 ∷ 11 ∷ []) (pick w (pushed e o) (ringRefused e 6) .number) qs
+push-cases e true ps qs o h = rw (number-pushed e (o .region) (o .answer)) h
+push-cases e false ps qs o h = refl
+
+push-asks : (e : End) (n : ℕ) (c s : List ℕ) → positionsRead (pushRule e n c) s ≡ pick (whole e (e .tx) n) (positionsRead (ringPush n (txRing e) (e .write) c) s) []
+unfolding pushRule
+push-asks e n c s = simp (positionsRead-unless, positionsRead-map)
+
+push-gives : (e : End) (n : ℕ) (c s : List ℕ) → answer (pushRule e n c) s ≡ pick (whole e (e .tx) n) (pushed e (answer (ringPush n (txRing e) (e .write) c) s)) (ringRefused e 6)
+unfolding pushRule
+push-gives e n c s = simp (answer-unless, answer-andThen)
+
+push-reads : (e : End) (tx c : List ℕ) → positionsRead (rule e (push tx c)) tx ≡ reading e (push tx c)
+unfolding rule readFrom step reading
+push-reads e tx c =
+    rw (push-asks e (length tx) c tx, push-gives e (length tx) c tx)
+    (push-cases e (whole e (e .tx) (length tx)) _ (partnerIndex (txRing e)) (answer (ringPush (length tx) (txRing e) (e .write) c) tx) (push-reads-the-index .asks (length tx) (txRing e) (e .write) c tx))
+
+-- a control message: past the checks of its rule the ring's own 6 and 11 do not come up
+control-cases : (e : End) (o : Outcome) (g : Ring) (ps c : List ℕ) (i l : Bool) (k a b : ℕ) → o .given ≡ control k a b → let p : RingOutcome = passed (tested i 7 (tested l 10 0)) (ringPushed [] g (e .write) c) refusal in
+    ps ≡ pushReads ps (handedOn e o (p .region) (p .answer) .number) (handedOn e o (p .region) (p .answer) .given)
+control-cases e o g ps c true true k a b q = rw q
+control-cases e o g ps c true false k a b q = refl
+control-cases e o g ps c false l k a b q = refl
+
+control-reads : (e : End) (tx : List ℕ) (o : Outcome) (k a b : ℕ) → o .given ≡ control k a b → isSound (length tx) (txRing e) (e .write) ≡ true →
+    positionsRead (pushing e (length tx) o (control k a b)) tx ≡ ofPush e (answer (pushing e (length tx) o (control k a b)) tx)
+unfolding ringPush indexAt bytes
+control-reads e tx o k a b q h =
+    let r : ℕ = indexAt tx (readIndexAt (txRing e)) in
+    rw h
+    (control-cases e o (txRing e) (partnerIndex (txRing e)) (k ∷ a ∷ b ∷ []) (inRule (e .tx .«data_length») r) (leb (packetLength 3 + used (e .tx .«data_length») r (e .write)) (e .tx .«data_length» - 1)) k a b q)
+
+pushed-reads : (e : End) (tx : List ℕ) (o : Outcome) → BeforeRing e (length tx) o → positionsRead (allOrNothing e (length tx) o) tx ≡ ofPush e (answer (allOrNothing e (length tx) o) tx)
+unfolding allOrNothing
+pushed-reads e tx o z = go (o .given) refl
+  where
+    go : (g : Given) → o .given ≡ g → positionsRead (pushing e (length tx) o g) tx ≡ ofPush e (answer (pushing e (length tx) o g) tx)
+    go nothing q = rw (q, z .number)
+    go (aLength k) q = rw q
+    go (dropped n) q = rw q
+    go (aRun s n) q = rw q
+    go (control k a b) q = control-reads e tx o k a b q (ring-sound e (length tx) (z .lent (k ∷ a ∷ b ∷ []) (rw q)))
+    go (delivery a b k) q = rw q
 
 -- kind 0
 data-cases : (a b c f u : Bool) (H : List ℕ) (n : ℕ) → n ≡ pick a (pick b (pick c (pick f (pick u 0 18) 17) 16) 15) 14 →
@@ -171,17 +229,17 @@ decoded-reads e false (BindingSent a b) r = refl
 decoded-reads e false (BindingReleased a b) r = refl
 
 pub rules-read : RulesRead
-unfolding rule lent step reading arrivalRule
+unfolding rule readFrom step reading arrivalRule
 rules-read e (start tx) = refl
-rules-read e (push tx c) = refl
+rules-read e (push tx c) = push-reads e tx c
 rules-read e (pull r b) = pull-reads e r b
 rules-read e (reserve k) = refl
 rules-read e (room tx s) = refl
-rules-read e (send tx s a k) = refl
+rules-read e (send tx s a k) = pushed-reads e tx (sendOf e (length tx) s a k) (send-before e (length tx) s a k .holds)
 rules-read e (drop s) = refl
 rules-read e (arrival r m) = decoded-reads e (whole e (e .rx) (length r)) (decode m) r
 rules-read e (view rx s) = refl
-rules-read e (done s) = refl
-rules-read e (register tx n) = refl
+rules-read e (done tx s) = pushed-reads e tx (doneOf e (length tx) s) (done-before e (length tx) s .holds)
+rules-read e (register tx n) = pushed-reads e tx (registerOf e (length tx) n) (register-before e (length tx) n .holds)
 rules-read e (askRoom s n) = refl
 rules-read e (askView s n) = refl

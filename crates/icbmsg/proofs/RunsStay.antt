@@ -12,13 +12,15 @@ use Rattle.blocks.specs.Tables.{entry, starts, allFree, freed, taken, runEntry,
 use Rattle.endpoints.specs.Endpoints.{boundAt, someEndpoint}
 use Rattle.icbmsg.specs.Ends.{isOpen, whole, changed}
 use Rattle.icbmsg.specs.Messages.{sendOf}
-use Rattle.icbmsg.specs.Calls.{Call, rule, step}
+use Rattle.icbmsg.specs.Calls.{Call, rule, readFrom, step}
 use Rattle.blocks.specs.WellFormed.{IsFree, Live, InRun, WellFormed}
 use Rattle.icbmsg.specs.WellFormed.{heldRun, bindingOf, Stored, Separate}
 use Rattle.icbmsg.specs.Theorems.{Part, called, Touched, RunsStay, SendTrims}
-use Rattle.icbmsg.specs.Ledger.{Side, transmit, receive, table, RunChange, runChange}
+use Rattle.icbmsg.specs.Pushing.{Pushed, nothing-to-push, not-pushed, is-pushed}
+use Rattle.icbmsg.proofs.AllOrNothing.{all-or-nothing}
+use Rattle.icbmsg.specs.Ledger.{Side, transmit, receive, table, RunChange, no-change, takes, trims, frees, runChange}
 use Rattle.blocks.proofs.Tables.{clash, Relation, below, first, later, above, relation, one-run, Taken, its-first, its-later, apart, Freed, gone, free-at, freed-view, first-entry, taken-view, free-law, live, run-of}
-use Rattle.icbmsg.proofs.Effects.{SentChange, run-taken, run-freed, run-trimmed, HeldChange, as-was, receives, finishes, stores, forgets, EndChange, stays, writes, reads, sends, keeps, Effect, refuses, drops, accepts, sound, whole-open, size-pos, effect}
+use Rattle.icbmsg.proofs.Effects.{SentChange, as-sent, run-taken, run-freed, run-trimmed, HeldChange, as-was, receives, finishes, stores, forgets, onSide, EndChange, reads-to, Effect, refuses, drops, accepts, sound, whole-open, size-pos, effect}
 use Rattle.blocks.proofs.LeastBlocks.{blocks-one, blocks-least}
 use Rattle.icbmsg.proofs.Separate.{separate}
 use Rattle.blocks.specs.declared.Use.{Use}
@@ -76,6 +78,7 @@ module _ {c : ℕ} {good : Entry → Bool} {t : List Entry} (o : WellFormed c go
 
 sent-kept : {c : ℕ} {good : Entry → Bool} {t t′ : List Entry} {x : RunChange} → WellFormed c good t → c ≤ 256 → SentChange c good t x t′ →
     (s : ℕ) → Live t s → (Touched transmit s x → ⊥) → (i : ℕ) → InRun t s i → entry t′ i ≡ entry t i
+sent-kept o b as-sent s l d i r = refl
 sent-kept o b (run-taken u s′ n a k su g f h m) s l d i r = kept-by-taking o b s l i r u s′ n a k f h m
 sent-kept o b (run-freed s′ l′) s l d i r = kept-by-freeing o b s l i r s′ l′ (λ q. d (refl, q))
 sent-kept o b (run-trimmed u s′ n a k l′ su g h m) s l d i r = kept-by-trimming o b s l i r s′ l′ (λ q. d (refl, q)) u n a k h m
@@ -92,18 +95,27 @@ held-kept {bs = bs} o w b (forgets j lj k) s l d i r =
 
 -- ---- a call
 
+-- what touches a run is on its side
+touched-side : (d : Side) (s : ℕ) (x : RunChange) → Touched d s (onSide d x) → Touched d s x
+touched-side transmit s no-change t = t
+touched-side transmit s (takes transmit y n) t = t
+touched-side transmit s (takes receive y n) t = t
+touched-side transmit s (trims transmit y n) t = t
+touched-side transmit s (trims receive y n) t = absurd t
+touched-side transmit s (frees transmit y) t = t
+touched-side transmit s (frees receive y) t = absurd t
+touched-side receive s no-change t = t
+touched-side receive s (takes transmit y n) t = t
+touched-side receive s (takes receive y n) t = t
+touched-side receive s (trims transmit y n) t = absurd t
+touched-side receive s (trims receive y n) t = t
+touched-side receive s (frees transmit y) t = absurd t
+touched-side receive s (frees receive y) t = t
+
 changed-kept : {e e′ : End} {x : RunChange} → isOpen e ≡ true → EndChange e x e′ → Separate e → (d : Side) (s : ℕ) → Live (table d e) s → (Touched d s x → ⊥) →
     (i : ℕ) → InRun (table d e) s i → entry (table d e′) i ≡ entry (table d e) i
-unfolding changed
-changed-kept p stays w d s l f i r = refl
-changed-kept p (writes x h) w transmit s l f i r = refl
-changed-kept p (writes x h) w receive s l f i r = refl
-changed-kept p (reads x h) w transmit s l f i r = refl
-changed-kept p (reads x h) w receive s l f i r = refl
-changed-kept {e = e} p (sends ps h q) w transmit s l f i r = let z = sound e p in sent-kept (w .sent) (omega (arith, leb-true)) h s l f i r
-changed-kept p (sends ps h q) w receive s l f i r = refl
-changed-kept p (keeps ps h q) w transmit s l f i r = refl
-changed-kept {e = e} p (keeps ps h q) w receive s l f i r = let z = sound e p in held-kept (w .held) (w .stored) (omega (arith, leb-true)) h s l f i r
+changed-kept {e = e} {x = x} p m w transmit s l f i r = let z = sound e p in sent-kept (w .sent) (omega (arith, leb-true)) (m .sent) s l (λ t. f (touched-side transmit s x t)) i r
+changed-kept {e = e} {x = x} p m w receive s l f i r = let z = sound e p in held-kept (w .held) (w .stored) (omega (arith, leb-true)) (m .held) s l (λ t. f (touched-side receive s x t)) i r
 
 step-kept : (e : End) (c : Call) → Separate e → (d : Side) (s : ℕ) → Live (table d e) s →
     (step e c .number ≡ 0 → Touched d s (runChange (e .tx) (e .rx) c (step e c .given)) → ⊥) → (i : ℕ) → InRun (table d e) s i → entry (table d (step e c .next)) i ≡ entry (table d e) i
@@ -111,7 +123,7 @@ step-kept e c w d s l k i r = go (effect e c) k
   where
     go : {f : Given → RunChange} {p : Part} {o : Outcome} → Effect f e p o → (o .number ≡ 0 → Touched d s (f (o .given)) → ⊥) → entry (table d (o .next)) i ≡ entry (table d e) i
     go (refuses n h) k = refl
-    go (drops n x ws q o h) k = changed-kept o (reads x h) w d s l (λ z. z) i r
+    go (drops n x ws q o h) k = changed-kept o (reads-to e o x h) w d s l (λ z. z) i r
     go (accepts z o p m) k = changed-kept o m w d s l (k z) i r
 
 -- ---- a list of calls
@@ -158,6 +170,13 @@ send-trimmed e w n s a k =
     let one = blocks-one (e .tx .«block_size») k p in
     record { trims-to = λ _. (m, first-entry (taken-view (free-law (w .sent) few s l) few SentData s (blocksFor (e .tx .«block_size») k) a k one (omega (arith, r .ends)) s) one) }
 
+-- and behind the ring
+pushed-trims : {e : End} {tx : List ℕ} {s a k : ℕ} {o o′ : Outcome} → Pushed e tx o o′ → Trims e s a k o → Trims e s a k o′
+unfolding changed
+pushed-trims (nothing-to-push q) t = t
+pushed-trims (not-pushed c n q r l) t = record { trims-to = λ h. absurd (omega arith) }
+pushed-trims (is-pushed c j i q r) t = record { trims-to = t .trims-to }
+
 pub send-trims : SendTrims
-unfolding step rule
-send-trims e x tx s a k = send-trimmed e (separate e x) (length tx) s a k .trims-to
+unfolding step rule readFrom
+send-trims e x tx s a k = pushed-trims (all-or-nothing e tx (sendOf e (length tx) s a k)) (send-trimmed e (separate e x) (length tx) s a k) .trims-to

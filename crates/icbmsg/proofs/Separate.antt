@@ -13,7 +13,7 @@ use Rattle.wire.specs.Choice.{pick}
 use Rattle.icbmsg.specs.Outcome.{Given, nothing, Outcome, accepted}
 use Rattle.blocks.specs.Tables.{entry, freeEntry}
 use Rattle.endpoints.specs.Endpoints.{noBinding, noEndpoint}
-use Rattle.icbmsg.specs.Ends.{isOpen, changed}
+use Rattle.icbmsg.specs.Ends.{isOpen}
 use Rattle.icbmsg.specs.Opening.{opening, region, noRegion, fresh, freshOf, closedWith, txLayout, rxLayout}
 use Rattle.icbmsg.specs.declared.Opening.{Opening}
 use Rattle.icbmsg.specs.Calls.{Call, step, left}
@@ -22,7 +22,7 @@ use Rattle.blocks.specs.WellFormed.{leading, blockKind, IsFree, Live, InRun, We
 use Rattle.icbmsg.specs.WellFormed.{sentRun, heldRun, bindingOf, IsStored, IsKept, Stored, Separate}
 use Rattle.icbmsg.specs.Theorems.{Part, Reached, opened, called, Covered, Separated, RunsDisjoint, BlocksCovered}
 use Rattle.blocks.proofs.Tables.{clash, one-run, Taken, its-first, its-later, apart, freed-live, freed-stays, taken-first, taken-stays, freed-view, taken-view, free-at, free-law, take-law, trim-law, fresh-entry, fresh-well-formed}
-use Rattle.icbmsg.proofs.Effects.{SentChange, run-taken, run-freed, run-trimmed, HeldChange, as-was, receives, finishes, stores, forgets, EndChange, writes, reads, sends, keeps, Effect, refuses, drops, accepts, sound, effect, stays, reads}
+use Rattle.icbmsg.proofs.Effects.{SentChange, as-sent, run-taken, run-freed, run-trimmed, HeldChange, as-was, receives, finishes, stores, forgets, EndChange, Effect, refuses, drops, accepts, sound, effect, reads-to}
 use Rattle.blocks.specs.declared.Use.{Use}
 use Rattle.blocks.specs.declared.Use.the-variants.{Free, Inside, Reserved, SentData, SentBinding, ReceivedData, StoredBinding}
 use Rattle.blocks.specs.declared.Entry.{Entry}
@@ -145,6 +145,7 @@ module _ {t t′ : List Entry} {bs : List Binding} (w : Stored t bs) (j : ℕ) (
 -- ---- the laws, for each way that an end may change
 
 turned : {c : ℕ} {good : Entry → Bool} {t t′ : List Entry} {d : RunChange} → WellFormed c good t → c ≤ 256 → SentChange c good t d t′ → WellFormed c good t′
+turned o b as-sent = o
 turned {t = t} o b (run-taken u s n a k su g f l m) = take-law o b u s n a k su g (λ i p q. free-at t s n i f p q) l m
 turned o b (run-freed s l) = free-law o b s l
 turned o b (run-trimmed u s n a k l su g h m) = trim-law o b u s n a k l su g h m
@@ -194,17 +195,15 @@ kept-stored {t = t} {bs = bs} o w b (forgets j lj k) =
     rw (← (r .1)) (less-stored w j lj k (freed-stays o l v) (freed-live o l v))
 
 moved : {e e′ : End} {d : RunChange} → isOpen e ≡ true → EndChange e d e′ → Separate e → Separate e′
-unfolding changed
-moved p stays w = w
-moved p (writes x h) w = record { sent = w .sent; held = w .held; stored = w .stored; eight = w .eight }
-moved p (reads x h) w = record { sent = w .sent; held = w .held; stored = w .stored; eight = w .eight }
-moved {e} p (sends ps h q) w =
-    let z = sound e p in
-    record { sent = turned (w .sent) (omega (arith, leb-true)) h; held = w .held; stored = w .stored; eight = q ∙ w .eight }
-moved {e} p (keeps ps h q) w =
+moved {e} p m w =
     let z = sound e p in
     let b : e .rx .«block_count» ≤ 256 = omega (arith, leb-true) in
-    record { sent = w .sent; held = kept-table (w .held) (w .stored) b h; stored = kept-stored (w .held) (w .stored) b h; eight = q ∙ w .eight }
+    record {
+      sent = rw (m .numbers .tx) (turned (w .sent) (omega (arith, leb-true)) (m .sent));
+      held = rw (m .numbers .rx) (kept-table (w .held) (w .stored) b (m .held));
+      stored = kept-stored (w .held) (w .stored) b (m .held);
+      eight = m .endpoints ∙ w .eight;
+    }
 
 -- every call keeps it, whatever bytes are lent
 pub stays-separate : (e : End) (c : Call) → Separate e → Separate (step e c .next)
@@ -212,7 +211,7 @@ stays-separate e c w = go (effect e c) w
   where
     go : {f : Given → RunChange} {p : Part} {o : Outcome} → Effect f e p o → Separate e → Separate (o .next)
     go (refuses n h) w = w
-    go (drops n i ws q o r) w = moved o (reads i r) w
+    go (drops n i ws q o r) w = moved o (reads-to e o i r) w
     go (accepts z o p m) w = moved o m w
 
 -- ---- a fresh end has it

@@ -26,7 +26,7 @@ abbrev pub zeros : List ℕ
 zeros = replicate 2048 0
 
 -- what a case states: of a layout the number, the block size and where the blocks begin; of a call the number and what comes with it; of a
--- binding and of a packet the bytes
+-- binding the bytes that are written, its message, its packet and the write index; of a packet the bytes
 pub data Stated : Type 0 where
   a-layout : (number blockSize blocksBegin : ℕ) → Stated
   an-answer : (number : ℕ) → Given → Stated
@@ -55,7 +55,7 @@ starredCases =
     ∷ (ofCall (step initiator (reserve 0)), an-answer 0 (aRun 0 1))
     ∷ (ofCall (step initiator (reserve 1532)), an-answer 0 (aRun 0 16))
     ∷ (ofCall (step initiator (reserve 1533)), an-answer 23 nothing)
-    ∷ (ofBinding (step initiator (register zeros example)), some-bytes (0x08 ∷ 0 ∷ 0 ∷ 0 ∷ example ++ (0 ∷ [])))
+    ∷ (ofBinding (step initiator (register zeros example)), some-bytes ((0x08 ∷ 0 ∷ 0 ∷ 0 ∷ example ++ (0 ∷ [])) ++ packet (2 ∷ 0 ∷ 0 ∷ []) ++ (0x08 ∷ 0 ∷ 0 ∷ 0 ∷ [])))
     ∷ (some-bytes (packet (0 ∷ 2 ∷ 5 ∷ [])), some-bytes (0 ∷ 3 ∷ 0 ∷ 0 ∷ 0 ∷ 2 ∷ 5 ∷ 0 ∷ []))
     ∷ []
 

@@ -13,6 +13,7 @@ pub mod Ledger
 pub mod WellFormed
 pub mod Theorems
 pub mod Places
+pub mod Pushing
 pub mod Names
 pub mod Completion
 pub mod NewerPartner

@@ -37,7 +37,7 @@ changedCalls =
     ∷ keep (arrival message (0 ∷ 0 ∷ 2 ∷ [])) (arrival otherMessage (0 ∷ 0 ∷ 2 ∷ []))
     ∷ keep (view zeros 2) (view grownBinding 2)
     ∷ keep (pull started []) (pull otherStarted [])
-    ∷ keep (done 2) (done 2)
+    ∷ keep (done zeros 2) (done zeros 2)
     ∷ []
 
 -- J3: the hypothesis of D3 can be met

@@ -2,19 +2,19 @@
 use Prim.Native.Nat.{ℕ, _+_, _*_, _≤_, _<_}
 use mathlib.Core.Path.{_≡_}
 use mathlib.Core.Logic.{_≢_}
-use mathlib.Core.List.{List, []}
+use mathlib.Core.List.{List, [], _++_}
 use lib.Dec.{eqb}
 use lib.ListN.{length}
 use Rattle.wire.specs.Choice.{pick}
 use Rattle.wire.specs.Bytes.{Within, Inside}
-use Rattle.icmsg.specs.Laws.{InRing}
+use Rattle.icmsg.specs.Laws.{InRing, InWritersPart}
 use Rattle.blocks.specs.Tables.{entry}
 use Rattle.blocks.specs.WellFormed.{Live}
 use Rattle.blocks.specs.declared.Entry.{Entry}
 use Rattle.icbmsg.specs.Regions.{blockCount, blockSize, blocksOffset}
 use Rattle.icbmsg.specs.Outcome.{Given, nothing, aLength, dropped, aRun, control, delivery, Outcome}
 use Rattle.icbmsg.specs.Ends.{blockAt}
-use Rattle.icbmsg.specs.Rings.{ringOf}
+use Rattle.icbmsg.specs.Rings.{txRing, rxRing}
 use Rattle.icbmsg.specs.Messages.{need}
 use Rattle.icbmsg.specs.Calls.{Call, start, push, pull, reserve, room, send, drop, arrival, view, done, register, askRoom, askView, lent, step}
 use Rattle.icbmsg.specs.Theorems.{Reached, Part, no-part, length-part, pull-part, message-part, partOf}
@@ -59,10 +59,11 @@ PartsApart =
 
 -- ---- writes
 
--- where a call writes: nowhere, on the ring that it sends or receives on, or in the n transmit blocks at s, which are its message's
+-- where a call writes: nowhere; on the ring that it starts or receives on; a packet, to the transmit ring's data and its write index; or first in
+-- the n transmit blocks at s, which are its message's, and then the packet
 pub data Area : Type 0 where
-  no-area tx-ring rx-ring : Area
-  own-run : (s n : ℕ) → Area
+  no-area tx-ring rx-ring a-packet : Area
+  run-and-packet : (s n : ℕ) → Area
 
 -- a register that answers 02 writes its binding to the blocks that it takes
 abbrev pub registerArea : End → List ℕ → Given → Area
@@ -70,30 +71,43 @@ registerArea e n nothing = no-area
 registerArea e n (aLength k) = no-area
 registerArea e n (dropped m) = no-area
 registerArea e n (aRun s m) = no-area
-registerArea e n (control k a s) = pick (eqb k 2) (own-run s (need e (length n + 1))) no-area
+registerArea e n (control k a s) = pick (eqb k 2) (run-and-packet s (need e (length n + 1))) a-packet
 registerArea e n (delivery a b k) = no-area
 
 unfoldable pub areaOf : End → Call → Given → Area
 areaOf e (start tx) g = tx-ring
-areaOf e (push tx c) g = tx-ring
+areaOf e (push tx c) g = a-packet
 areaOf e (pull rx b) g = rx-ring
 areaOf e (reserve k) g = no-area
 areaOf e (room tx s) g = no-area
-areaOf e (send tx s a k) g = own-run s (need e k)
+areaOf e (send tx s a k) g = run-and-packet s (need e k)
 areaOf e (drop s) g = no-area
 areaOf e (arrival rx m) g = no-area
 areaOf e (view rx s) g = no-area
-areaOf e (done s) g = no-area
+areaOf e (done tx s) g = a-packet
 areaOf e (register tx n) g = registerArea e n g
 areaOf e (askRoom s n) g = no-area
 areaOf e (askView s n) g = no-area
 
+-- all of it lies in the n transmit blocks at s
+abbrev pub InRunAt : End → ℕ → ℕ → List (ℕ × ℕ) → Type 0
+InRunAt e s n ws = Within (blockAt (e .tx) s) (blockAt (e .tx) s + n * blockSize (e .tx)) ws
+
+-- some writes to the message, and then those of the packet
+pub record MessageThenPacket (e : End) (s n : ℕ) (ts : List (ℕ × ℕ)) : Type 0 where
+  pub message : List (ℕ × ℕ)
+  pub packet : List (ℕ × ℕ)
+  pub all : ts ≡ message ++ packet
+  pub in-run : InRunAt e s n message
+  pub on-ring : InWritersPart (txRing e) packet
+
 -- what is written to the transmit and to the receive region lies there
 abbrev pub InArea : End → Area → List (ℕ × ℕ) → List (ℕ × ℕ) → Type 0
 InArea e no-area ts rs = (ts ≡ []) × (rs ≡ [])
-InArea e tx-ring ts rs = InRing (ringOf (e .alignment) (e .tx)) ts × (rs ≡ [])
-InArea e rx-ring ts rs = (ts ≡ []) × InRing (ringOf (e .alignment) (e .rx)) rs
-InArea e (own-run s n) ts rs = Within (blockAt (e .tx) s) (blockAt (e .tx) s + n * blockSize (e .tx)) ts × (rs ≡ [])
+InArea e tx-ring ts rs = InRing (txRing e) ts × (rs ≡ [])
+InArea e rx-ring ts rs = (ts ≡ []) × InRing (rxRing e) rs
+InArea e a-packet ts rs = InWritersPart (txRing e) ts × (rs ≡ [])
+InArea e (run-and-packet s n) ts rs = MessageThenPacket e s n ts × (rs ≡ [])
 
 -- f tells the area by what comes with the answer; the slices that are lent have t, r and b bytes
 pub record WritesIn (e : End) (f : Given → Area) (t r b : ℕ) (o : Outcome) : Type 0 where

@@ -2,11 +2,12 @@
 -- ensures them all (crates/link/src/openings.rt), so that none can fall away unseen.
 use Rattle.region.specs.Laws.{AcceptedLayouts}
 use Rattle.icmsg.specs.Laws as Ring
-use Rattle.icmsg.specs.Reading.{PullReads}
+use Rattle.icmsg.specs.Reading.{PullReads, PushReads}
 use Rattle.icbmsg.specs.Reading.{RulesRead}
 use Rattle.icbmsg.specs.Ledger.{ByHistory}
 use Rattle.icbmsg.specs.Theorems.{Refusals, NumbersStay, OpenStays, ClosedSix, OpenExactly, Separated, RunsDisjoint, BlocksCovered, RunsStay, SendTrims, NothingAdded, AddressLowest, NeedLeast, ReserveSays, NoRoom}
 use Rattle.icbmsg.specs.Places.{PartsInside, PartsApart, WritesInside}
+use Rattle.icbmsg.specs.Pushing.{AllOrNothing, RingAfter, ReadApart}
 use Rattle.icbmsg.specs.Names.{NamesKept}
 use Rattle.icbmsg.specs.Completion.{BindingCompletes, DataReaches}
 use Rattle.icbmsg.specs.NewerPartner.{NewerPartner}
@@ -37,6 +38,8 @@ pub record Promises : Type 0 where
   pub unread-kept : Ring.UnreadKept
   pub never-jams : Ring.NeverJams
   pub ring-writes : Ring.WritesInside
+  pub all-or-nothing : AllOrNothing
+  pub ring-after : RingAfter
   pub by-history : ByHistory
   pub nothing-added : NothingAdded
   pub need-least : NeedLeast
@@ -48,6 +51,8 @@ pub record Promises : Type 0 where
   pub data-reaches : DataReaches
   -- D3
   pub pull-reads : PullReads
+  pub push-reads : PushReads
+  pub read-apart : ReadApart
   pub rules-read : RulesRead
   pub newer-partner : NewerPartner
   pub changes-can-come : ChangesCanCome

@@ -6,10 +6,11 @@ use lib.ListN.{length, getD, set}
 use Rattle.wire.specs.Choice.{pick}
 use Rattle.wire.specs.Bytes.{littleEndian, straight, writes}
 use Rattle.icbmsg.specs.Regions.{blockCount}
-use Rattle.icbmsg.specs.Outcome.{nothing, control, Outcome, accepted, written, check}
+use Rattle.icbmsg.specs.Outcome.{nothing, control, Outcome, Rule, accepted, written, check}
 use Rattle.blocks.specs.Search.{Search, nowhere, foundAt}
 use Rattle.blocks.specs.Tables.{freed, taken}
 use Rattle.icbmsg.specs.Ends.{blockAt, whole, foundOr, changed}
+use Rattle.icbmsg.specs.Rings.{allOrNothing}
 use Rattle.icbmsg.specs.Messages.{need, reserving}
 use Rattle.endpoints.specs.Endpoints.{noBinding, isUnused, at, registered, holds, endpointAt, bindingAt, someEndpoint, unusedFrom, goodName}
 use Rattle.blocks.specs.Names.{paddedName}
@@ -51,7 +52,7 @@ followed e n i (foundAt j) = boundToStored e n i j (getD (e .bindings) j noBindi
 unfoldable pub initiates : End → List ℕ → ℕ → Outcome
 initiates e n i = reserving e (length n + 1) (announcement e n i (unusedFrom 8 0 (e .endpoints)))
 
--- E1, checks 20, 21, 22: l bytes are lent, the name is n
+-- E1, checks 20, 21, 22: l bytes are lent, the name is n; so much before the ring
 unfoldable pub registerOf : End → ℕ → List ℕ → Outcome
 registerOf e l n =
     check (whole e (e .tx) l) 6 e
@@ -60,3 +61,6 @@ registerOf e l n =
     (foundOr 22 e
     (λ i. pick (e .initiator) (initiates e n i) (followed e n i (bindingAt (holds (blockCount (e .rx)) n) (e .bindings))))
     (endpointAt (at isUnused) (e .endpoints)))))
+
+abbrev pub registerRule : End → ℕ → List ℕ → Rule
+registerRule e l n = allOrNothing e l (registerOf e l n)

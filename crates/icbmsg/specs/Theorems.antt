@@ -7,6 +7,7 @@ use mathlib.Core.List.{List, [], _∷_}
 use lib.Dec.{eqb}
 use lib.ListN.{length}
 use Rattle.wire.specs.Bytes.{same}
+use Rattle.wire.specs.Reads.{answer}
 use Rattle.icmsg.specs.Ring.{writeIndexAt, indexAt, used}
 use Rattle.icmsg.specs.Rules.{readTo}
 use Rattle.icmsg.specs.declared.Ring.{Ring}
@@ -21,7 +22,7 @@ use Rattle.endpoints.specs.declared.Endpoint.{Endpoint}
 use Rattle.icbmsg.specs.Regions.{blockCount, blockSize, dataLength}
 use Rattle.icbmsg.specs.Outcome.{Given, nothing, aLength, Outcome, refusedWith, droppedTo, refused}
 use Rattle.icbmsg.specs.Ends.{isOpen, whole, withRead}
-use Rattle.icbmsg.specs.Rings.{ringOf}
+use Rattle.icbmsg.specs.Rings.{rxRing, allOrNothing}
 use Rattle.icbmsg.specs.Opening.{opening}
 use Rattle.icbmsg.specs.declared.Opening.{Opening}
 use Rattle.icbmsg.specs.Messages.{need, reservation}
@@ -60,7 +61,7 @@ partOf (send tx s a k) = no-part
 partOf (drop s) = no-part
 partOf (arrival rx m) = no-part
 partOf (view rx s) = message-part receive s
-partOf (done s) = no-part
+partOf (done tx s) = no-part
 partOf (register tx n) = no-part
 partOf (askRoom s n) = no-part
 partOf (askView s n) = no-part
@@ -74,7 +75,7 @@ pub record Refusals : Type 0 where
   -- R14: a pull's 9 is that number, the length 0 and how many bytes were dropped, from the own read index to the partner's index w; the read
   -- index is then w, and its four bytes are written. All else of the end is as it was, its tables, endpoints and bindings too.
   pub broken : (e : End) (rx b : List ℕ) → step e (pull rx b) .number ≡ 9 →
-      let g : Ring = ringOf (e .alignment) (e .rx) in
+      let g : Ring = rxRing e in
       let w : ℕ = indexAt rx (writeIndexAt g) in
       step e (pull rx b) ≡ droppedTo (withRead e w) (used (dataLength (e .rx)) (e .read) w) (readTo g w)
 
@@ -197,10 +198,13 @@ pub record Registers (e : End) (tx n : List ℕ) (i : ℕ) : Type 0 where
   pub place : endpointAt (at isUnused) (e .endpoints) ≡ foundAt i
   pub initiator : e .initiator ≡ true
 
+-- its binding at s, all or nothing: in the blocks and on the ring, or refused by the ring
+abbrev pub announces : End → List ℕ → List ℕ → ℕ → ℕ → Outcome
+announces e tx n i s = answer (allOrNothing e (length tx) (announcement e n i (unusedFrom 8 0 (e .endpoints)) s)) tx
+
 pub record ReserveSays : Type 0 where
   pub reserve : (e : End) (k : ℕ) → isOpen e ≡ true → Reserves e k (reservation e k) (step e (reserve k))
-  pub register : (e : End) (tx n : List ℕ) (i : ℕ) → Registers e tx n i →
-      Reserves e (length n + 1) (announcement e n i (unusedFrom 8 0 (e .endpoints))) (step e (register tx n))
+  pub register : (e : End) (tx n : List ℕ) (i : ℕ) → Registers e tx n i → Reserves e (length n + 1) (announces e tx n i) (step e (register tx n))
 
 -- 24 exactly when the earlier checks have passed and the area is crowded
 pub record NoRoom : Type 0 where

@@ -2,10 +2,9 @@
 use Prim.Native.Nat.{ℕ, _+_, _-_, _*_, _≤_}
 use mathlib.Core.Bool.{Bool, true, false}
 use mathlib.Core.Path.{_≡_, refl, sym, ap, _∙_}
-use mathlib.Core.List.{List}
+use mathlib.Core.List.{List, []}
 use native.Mathlib.Omega.{arith}
 use lib.ListN.{take, drop}
-use Rattle.wire.specs.Bytes.{littleEndian, straight, writes, wrote}
 use Rattle.refusal.specs.Numbers.{numberOf}
 use Rattle.refusal.specs.declared.Refusal.{Refusal}
 use Rattle.blocks.specs.Tables.{entry, starts, startsData, freed, taken}
@@ -14,7 +13,7 @@ use Rattle.blocks.specs.declared.Entry.{Entry}
 use Rattle.endpoints.specs.declared.Endpoint.{Endpoint}
 use Rattle.endpoints.specs.declared.Binding.{Binding}
 use Rattle.tables.specs.Compact.{tableOf, Changed}
-use Rattle.icbmsg.specs.Outcome.{nothing, aRun, control, Outcome, refused, accepted, placed, withoutWrites, check}
+use Rattle.icbmsg.specs.Outcome.{nothing, aRun, control, Outcome, refused, accepted, written, placed, check}
 use Rattle.icbmsg.specs.Ends.{isOpen, whole, blockAt, changed, withSent, withHeld}
 use Rattle.icbmsg.specs.Messages.{reserveOf, roomOf, sendOf, dropOf, viewOf, doneOf}
 use Rattle.icbmsg.specs.declared.Numbers.{Numbers}
@@ -49,7 +48,7 @@ module _ (n : Numbers) (t : List ℕ) (k : ℕ) (r : Space) (h : ReservesAs r n 
         let w = rw q at h in
         ap (λ (e : End). accepted e (aRun s m)) (joined-sent n t t′ (taken (tableOf t 0) Reserved s m 0 0) ps bs c) ∙ sym (w .3 ps bs ∙ rw (← (w .0)))
 
--- ---- drop and done
+-- ---- drop
 
 module _ (n : Numbers) (t : List ℕ) (s : ℕ) (ps : List Endpoint) (bs : List Binding) (x : Bool) (q : x ≡ isOpen (joined n t ps bs)) where
   pub drop-refused : (y : Refusal) → ((e : End) (o : Outcome) → check x 6 e (check (starts Reserved (n .tx .«block_count») (tableOf t 0) s) 25 e o) ≡ refused e (numberOf y)) →
@@ -62,15 +61,16 @@ module _ (n : Numbers) (t : List ℕ) (s : ℕ) (ps : List Endpoint) (bs : List 
   unfolding dropOf
   dropped z t′ h c = rw (← q, h .0, h .1, ← (h .2)) (ap (λ (e : End). accepted e nothing) (joined-sent n t t′ (freed (tableOf t 0) s (z .count)) ps bs c))
 
+module _ (n : Numbers) (t : List ℕ) (l s : ℕ) (ps : List Endpoint) (bs : List Binding) (x : Bool) (q : x ≡ whole (joined n t ps bs) (n .tx) l) where
   pub done-refused : (y : Refusal) → ((e : End) (o : Outcome) → check x 6 e (check (startsData (n .rx .«block_count») (n .rx .«block_size») (tableOf t 1568) s) 25 e o) ≡ refused e (numberOf y)) →
-      refused (joined n t ps bs) (numberOf y) ≡ doneOf (joined n t ps bs) s
+      doneOf (joined n t ps bs) l s ≡ refused (joined n t ps bs) (numberOf y)
   unfolding doneOf
-  done-refused y h = sym (rw (← q) (h (joined n t ps bs) _))
+  done-refused y h = rw (← q) (h (joined n t ps bs) _)
 
-  pub ended : (z : Entry) (t′ : List ℕ) → (x ≡ true) × (startsData (n .rx .«block_count») (n .rx .«block_size») (tableOf t 1568) s ≡ true) × (z ≡ entry (tableOf t 1568) s) →
-      Changed t t′ 1568 (freed (tableOf t 1568) s (z .count)) → accepted (joined n t′ ps bs) (control 1 0 s) ≡ doneOf (joined n t ps bs) s
+  pub done-live : (z : Entry) → (x ≡ true) × (startsData (n .rx .«block_count») (n .rx .«block_size») (tableOf t 1568) s ≡ true) × (z ≡ entry (tableOf t 1568) s) →
+      doneOf (joined n t ps bs) l s ≡ written (withHeld (joined n t ps bs) (freed (tableOf t 1568) s (z .count))) (control 1 0 s) []
   unfolding doneOf
-  ended z t′ h c = rw (← q, h .0, h .1, ← (h .2)) (ap (λ (e : End). accepted e (control 1 0 s)) (joined-held n t t′ (freed (tableOf t 1568) s (z .count)) ps bs c))
+  done-live z h = rw (← q, h .0, h .1, ← (h .2))
 
 -- ---- rooms and views
 
@@ -124,18 +124,14 @@ module _ (o : Outcome) (b z : ℕ) (h : b ≡ o .begin) (k : z ≡ o .size) wher
 -- ---- send
 
 module _ (n : Numbers) (t : List ℕ) (ps : List Endpoint) (l s a k : ℕ) (r : Sending) (bs : List Binding) (h : SendAs r (joined n t ps bs) l s a k) where
-  pub send-refused : (x : Refusal) (tx : List ℕ) → r ≡ Sending.Refused x →
-      (refused (joined n t ps bs) (numberOf x) ≡ withoutWrites (sendOf (joined n t ps bs) l s a k)) × (tx ≡ wrote tx (sendOf (joined n t ps bs) l s a k .tx))
-  unfolding wrote
-  send-refused x tx q = let w = rw q at h in (rw w, rw w)
+  pub send-refused : (x : Refusal) → r ≡ Sending.Refused x → sendOf (joined n t ps bs) l s a k ≡ refused (joined n t ps bs) (numberOf x)
+  send-refused x q = rw q at h
 
   module _ (b c m : ℕ) (q : r ≡ Sending.Fits b c m) where
     pub send-fits : SendAs (Sending.Fits b c m) (joined n t ps bs) l s a k
     send-fits = rw q at h
 
-    pub sent : (t₁ t₂ tx tx′ : List ℕ) → Changed t t₁ 0 (freed (tableOf t 0) s c) → Changed t₁ t₂ 0 (taken (tableOf t₁ 0) SentData s m b k) → tx′ ≡ wrote tx (writes (straight (blockAt (n .tx) s)) (littleEndian 4 k)) →
-        (accepted (joined n t₂ ps bs) (control 0 b s) ≡ withoutWrites (sendOf (joined n t ps bs) l s a k)) × (tx′ ≡ wrote tx (sendOf (joined n t ps bs) l s a k .tx))
+    -- the end with both changes of the table
+    pub sent : (t₁ t₂ : List ℕ) → Changed t t₁ 0 (freed (tableOf t 0) s c) → Changed t₁ t₂ 0 (taken (tableOf t₁ 0) SentData s m b k) → joined n t₂ ps bs ≡ withSent (joined n t ps bs) (taken (freed (tableOf t 0) s c) SentData s m b k)
     unfolding changed
-    sent t₁ t₂ tx tx′ x y z =
-        let w = send-fits in
-        (rw (w .0, y .table, y .upper 1568 (omega arith), x .table, x .upper 1568 (omega arith), w .1), rw (w .0, z))
+    sent t₁ t₂ x y = rw (y .table, y .upper 1568 (omega arith), x .table, x .upper 1568 (omega arith))

@@ -2,13 +2,13 @@
 use Prim.Native.Nat.{ℕ, _+_, _*_, _≤_, _<_}
 use mathlib.Core.Bool.{Bool, true, false}
 use mathlib.Core.Path.{_≡_, refl, sym, ap, _∙_}
-use mathlib.Core.List.{List, [], _∷_, _++_}
+use mathlib.Core.List.{List, [], _∷_}
 use native.Mathlib.Omega.{arith}
 use lib.Dec.{leb, ltb}
 use lib.ListN.{length, getD, set}
 use borrow.Author.Tests.{leb-true}
 use Rattle.wire.specs.Choice.{pick}
-use Rattle.wire.specs.Bytes.{littleEndian, straight, writes, wrote, same}
+use Rattle.wire.specs.Bytes.{wrote, same}
 use Rattle.refusal.specs.Numbers.{numberOf}
 use Rattle.refusal.specs.declared.Refusal.{Refusal}
 use Rattle.blocks.specs.Names.{paddedName}
@@ -25,9 +25,9 @@ use Rattle.endpoints.specs.declared.Binding.{Binding}
 use Rattle.endpoints.specs.declared.BindingTest.the-variants.{Holds}
 use Rattle.endpoints.specs.declared.Stage.the-variants.{Waiting, Bound}
 use Rattle.tables.specs.Compact.{tableOf, Changed}
-use Rattle.icbmsg.specs.Outcome.{nothing, control, Outcome, refused, accepted, withoutWrites}
-use Rattle.icbmsg.specs.Ends.{openNumbers, isOpen, whole, blockAt, changed}
-use Rattle.icbmsg.specs.Registering.{announcement, followed, initiates, registerOf}
+use Rattle.icbmsg.specs.Outcome.{nothing, Outcome, refused, accepted, withoutWrites}
+use Rattle.icbmsg.specs.Ends.{openNumbers, isOpen, whole, changed}
+use Rattle.icbmsg.specs.Registering.{announcement, boundToStored, followed, initiates, registerOf}
 use Rattle.icbmsg.specs.declared.Numbers.{Numbers}
 use Rattle.icbmsg.specs.End.{End}
 use Rattle.checks.specs.Parts.{joined}
@@ -36,11 +36,15 @@ use Rattle.checks.specs.declared.registrations.Place.{Place}
 use Rattle.checks.specs.declared.Space.{Space}
 use Rattle.checks.proofs.OpenSays.{Sound, is-open, open-says, run-inside, whole-says}
 use Rattle.checks.proofs.Runs.{fit-at}
+use Rattle.link.specs.Answers.{writing, registeredOf}
+use Rattle.link.specs.Parts.{SaysNothing, behindRing}
+use Rattle.link.specs.declared.Answer.the-variants.{Refused}
+use Rattle.link.specs.declared.Registered.{Registered}
+use Rattle.link.proofs.ArrivalCalls.{called-only}
 
--- a refusal says its number, and writes nothing
-pub quiet : (o : Outcome) (e : End) (n : ℕ) (s : List ℕ) → o ≡ refused e n → (refused e n ≡ withoutWrites o) × (s ≡ wrote s (o .tx))
-unfolding wrote
-quiet o e n s h = (rw h, rw h)
+-- a refused registration
+pub refused-only : (r : Registered) (n : Numbers) (t : List ℕ) (ps : List Endpoint) (bs : List Binding) (x : Refusal) → SaysNothing r n x → registeredOf r n t ps bs ≡ refused (joined n t ps bs) (numberOf x)
+refused-only r n t ps bs x h = called-only (r .called) (Refused x) (writing n (r .write)) t ps bs (h .only) ∙ rw (h .write)
 
 -- what the numbers of an open end say of the transmit region, and of the receive region
 pub tx-sound : (n : Numbers) → openNumbers (n .alignment) (n .tx) (n .rx) (n .write) (n .read) ≡ true → Sound (n .alignment) (n .tx) × Sound (n .alignment) (n .rx)
@@ -57,18 +61,15 @@ module _ (n : Numbers) (t : List ℕ) (name : List ℕ) (r : Space) (h : FitAs r
     pub initiate-fits : (m ≡ blocksFor (n .tx .«block_size») (length name + 1)) × (1 ≤ m) × (s + m ≤ n .tx .«block_count»)
     initiate-fits = let w = rw q at h in (w .0, w .3, w .4)
 
-    announces : (ps : List Endpoint) (bs : List Binding) (i : ℕ) → initiates (joined n t ps bs) name i ≡ announcement (joined n t ps bs) name i (unusedFrom 8 0 ps) s
+    pub announces : (ps : List Endpoint) (bs : List Binding) (i : ℕ) → initiates (joined n t ps bs) name i ≡ announcement (joined n t ps bs) name i (unusedFrom 8 0 ps) s
     unfolding initiates
     announces ps bs i = let w = rw q at h in fit-at (n .tx) (tableOf t 0) (length name + 1) m (w .0) (joined n t ps bs) _ s (w .1) (w .2)
 
-    pub announced : (ps : List Endpoint) (bs : List Binding) (i a : ℕ) (t′ kept tx tx′ : List ℕ) → a ≡ unusedFrom 8 0 ps → Changed t t′ 0 (taken (tableOf t 0) SentBinding s m a (length name + 1)) → kept ≡ paddedName name →
-        tx′ ≡ wrote tx (writes (straight (blockAt (n .tx) s)) (littleEndian 4 (length name + 1) ++ name ++ (0 ∷ []))) →
-        (accepted (joined n t′ (set ps i (record { stage = Waiting; address = a; name = kept })) bs) (control 2 a s) ≡ withoutWrites (initiates (joined n t ps bs) name i))
-        × (tx′ ≡ wrote tx (initiates (joined n t ps bs) name i .tx))
+    -- the end that it leaves
+    pub announced : (ps : List Endpoint) (bs : List Binding) (i a : ℕ) (t′ kept : List ℕ) → a ≡ unusedFrom 8 0 ps → Changed t t′ 0 (taken (tableOf t 0) SentBinding s m a (length name + 1)) → kept ≡ paddedName name →
+        joined n t′ (set ps i (record { stage = Waiting; address = a; name = kept })) bs ≡ announcement (joined n t ps bs) name i (unusedFrom 8 0 ps) s .next
     unfolding changed
-    announced ps bs i a t′ kept tx tx′ u c k l =
-        let w = initiate-fits in
-        (rw (announces ps bs i, ← (w .0), c .table, c .upper 1568 (omega arith), u, k), rw (announces ps bs i, l))
+    announced ps bs i a t′ kept u c k = let w = initiate-fits in rw (← (w .0), c .table, c .upper 1568 (omega arith), u, k)
 
 -- the message and its zero lie in its blocks
 pub announcement-inside : (n : Numbers) (k s m l : ℕ) → Sound (n .alignment) (n .tx) → m ≡ blocksFor (n .tx .«block_size») k → s + m ≤ n .tx .«block_count» → l ≡ n .tx .length →
@@ -90,17 +91,15 @@ module _ (n : Numbers) (t : List ℕ) (bs : List Binding) (kept : List ℕ) (i :
   unfolding changed
   follow-waits h = rw (found nowhere h, k)
 
-  pub follow-binds : (j : ℕ) (b : Binding) (t′ : List ℕ) → bindingAt (bindingTest Holds (n .rx .«block_count») 0 kept) bs ≡ foundAt j → b ≡ getD bs j noBinding → Changed t t′ 1568 (freed (tableOf t 1568) (b .start) (b .count)) →
-      accepted (joined n t′ (set ps i (record { stage = Bound; address = b .address; name = kept })) (set bs j noBinding)) (control 3 (b .address) (b .start))
-      ≡ followed (joined n t ps bs) name i (bindingAt (holds (n .rx .«block_count») name) bs)
-  unfolding changed
-  follow-binds j b t′ h p c = rw (found (foundAt j) h, k, c .table, c .lower 0 (omega arith), p)
+  pub follow-binds : (j : ℕ) (b : Binding) → bindingAt (bindingTest Holds (n .rx .«block_count») 0 kept) bs ≡ foundAt j → b ≡ getD bs j noBinding →
+      followed (joined n t ps bs) name i (bindingAt (holds (n .rx .«block_count») name) bs) ≡ boundToStored (joined n t ps bs) name i j b
+  follow-binds j b h p = rw (found (foundAt j) h, p)
 
--- a follower writes nothing
-pub followed-quiet : (e : End) (n : List ℕ) (i : ℕ) (q : Search) (o : Outcome) (s : List ℕ) → o ≡ followed e n i q → (followed e n i q ≡ withoutWrites o) × (s ≡ wrote s (o .tx))
-unfolding wrote
-followed-quiet e n i nowhere o s h = (rw h, rw h)
-followed-quiet e n i (foundAt j) o s h = (rw h, rw h)
+-- the end that a stored binding leaves, taken over
+pub taken-over : (n : Numbers) (t : List ℕ) (bs : List Binding) (kept : List ℕ) (i : ℕ) (name : List ℕ) (ps : List Endpoint) (j : ℕ) (b : Binding) (t′ : List ℕ) → kept ≡ paddedName name → Changed t t′ 1568 (freed (tableOf t 1568) (b .start) (b .count)) →
+    joined n t′ (set ps i (record { stage = Bound; address = b .address; name = kept })) (set bs j noBinding) ≡ boundToStored (joined n t ps bs) name i j b .next
+unfolding changed
+taken-over n t bs kept i name ps j b t′ k c = rw (k, c .table, c .lower 0 (omega arith))
 
 -- what a stored binding of the kept name says of its blocks, at place j; d stands beyond the bindings
 pub holds-says : (bs : List Binding) (c a : ℕ) (kept : List ℕ) (j : ℕ) (d : Binding) → bindingAt (bindingTest Holds c a kept) bs ≡ foundAt j → j < length bs → c ≤ 256 →
@@ -133,12 +132,10 @@ module _ (e : End) (l : ℕ) (n : List ℕ) (i : ℕ) (q : registerOf e l n ≡ 
   by-role : (b : Bool) → e .initiator ≡ b → registerOf e l n ≡ pick b (initiates e n i) (followed e n i (bindingAt (holds (e .rx .«block_count») n) (e .bindings)))
   by-role b h = q ∙ ap (λ (b : Bool). pick b (initiates e n i) (followed e n i (bindingAt (holds (e .rx .«block_count») n) (e .bindings)))) h
 
-  pub registers-first : e .initiator ≡ true → (o : Outcome) (s s′ : List ℕ) → o ≡ withoutWrites (initiates e n i) → s′ ≡ wrote s (initiates e n i .tx) →
-      (o ≡ withoutWrites (registerOf e l n)) × (s′ ≡ wrote s (registerOf e l n .tx))
-  registers-first h o s s′ k m = let z = by-role true h in (k ∙ ap withoutWrites (sym z), m ∙ ap (λ (x : Outcome). wrote s (x .tx)) (sym z))
+  pub registers-first : e .initiator ≡ true → (o : Outcome) (s s′ : List ℕ) → o ≡ withoutWrites (behindRing e s (initiates e n i)) → s′ ≡ wrote s (behindRing e s (initiates e n i) .tx) →
+      (o ≡ withoutWrites (behindRing e s (registerOf e l n))) × (s′ ≡ wrote s (behindRing e s (registerOf e l n) .tx))
+  registers-first h o s s′ k m = let z = sym (by-role true h) in (k ∙ ap (λ (x : Outcome). withoutWrites (behindRing e s x)) z, m ∙ ap (λ (x : Outcome). wrote s (behindRing e s x .tx)) z)
 
-  pub registers-later : e .initiator ≡ false → (o : Outcome) (s : List ℕ) → o ≡ followed e n i (bindingAt (holds (e .rx .«block_count») n) (e .bindings)) →
-      (o ≡ withoutWrites (registerOf e l n)) × (s ≡ wrote s (registerOf e l n .tx))
-  registers-later h o s k =
-      let r = followed-quiet e n i (bindingAt (holds (e .rx .«block_count») n) (e .bindings)) (registerOf e l n) s (by-role false h) in
-      (k ∙ r .0, r .1)
+  pub registers-later : e .initiator ≡ false → (o : Outcome) (s s′ : List ℕ) → let f : Outcome = followed e n i (bindingAt (holds (e .rx .«block_count») n) (e .bindings)) in
+      o ≡ withoutWrites (behindRing e s f) → s′ ≡ wrote s (behindRing e s f .tx) → (o ≡ withoutWrites (behindRing e s (registerOf e l n))) × (s′ ≡ wrote s (behindRing e s (registerOf e l n) .tx))
+  registers-later h o s s′ k m = let z = sym (by-role false h) in (k ∙ ap (λ (x : Outcome). withoutWrites (behindRing e s x)) z, m ∙ ap (λ (x : Outcome). wrote s (behindRing e s x .tx)) z)

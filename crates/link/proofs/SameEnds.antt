@@ -8,13 +8,13 @@ use Rattle.endpoints.specs.declared.Endpoint.{Endpoint}
 use Rattle.endpoints.specs.declared.Binding.{Binding}
 use Rattle.icbmsg.specs.Outcome.{Outcome, withoutWrites}
 use Rattle.wire.specs.Reads.{answer}
-use Rattle.icbmsg.specs.Rings.{startOf, pushOf, pullRule}
-use Rattle.icbmsg.specs.Messages.{sendOf}
-use Rattle.icbmsg.specs.Registering.{registerOf}
-use Rattle.icbmsg.specs.Calls.{Call, lent, rule, step, run}
+use Rattle.icbmsg.specs.Rings.{startOf, pushRule, pullRule}
+use Rattle.icbmsg.specs.Messages.{sendRule, doneRule}
+use Rattle.icbmsg.specs.Registering.{registerRule}
+use Rattle.icbmsg.specs.Calls.{Call, lent, readFrom, rule, step, run}
 use Rattle.icbmsg.specs.declared.Numbers.{Numbers}
 use Rattle.checks.specs.Parts.{joined}
-use Rattle.link.specs.Answers.{answered, calledOf, ringCalledOf, placeOf}
+use Rattle.link.specs.Answers.{answered, pushedOf, calledOf, registeredOf, ringCalledOf, placeOf}
 use Rattle.link.specs.SameEnds.{Bytes, standsFor, Seen, Step, starts, pushes, pulls, reserves, rooms, sends, drops, arrives, views, ends, registers, asksRoom, asksView, Steps, SameAt, AllSame, SameEnds}
 use Rattle.link.specs.SameEnds as ends-of
 
@@ -45,12 +45,12 @@ written-same c x z o h p q r s u v w y =
 
 module _ (n : Numbers) (t : List ℕ) (ps : List Endpoint) (bs : List Binding) where
   pub step-same : (c : Call) (x : Seen) → Step n t ps bs c x → SameAt c x (step (joined n t ps bs) c)
-  unfolding step rule lent wrote
+  unfolding step rule readFrom lent wrote
   step-same c x (starts r tx tx′ h w) =
       let o : Outcome = startOf (joined n t ps bs) (length tx) in
       written-same c x (ringCalledOf r t ps bs) o (h t ps bs) refl refl refl refl refl (w t ps bs) (none-lent (o .rx)) (none-lent (o .buffer))
   step-same c x (pushes r tx tx′ m h w) =
-      let o : Outcome = pushOf (joined n t ps bs) tx m in
+      let o : Outcome = answer (pushRule (joined n t ps bs) (length tx) m) tx in
       written-same c x (ringCalledOf r t ps bs) o (h t ps bs) refl refl refl refl refl (w t ps bs) (none-lent (o .rx)) (none-lent (o .buffer))
   step-same c x (pulls r rx rx′ b b′ h w v) =
       let o : Outcome = answer (pullRule (joined n t ps bs) (length rx) (length b)) rx in
@@ -58,15 +58,17 @@ module _ (n : Numbers) (t : List ℕ) (ps : List Endpoint) (bs : List Binding) w
   step-same c x (reserves r t′ k h) = told-same c x (answered r (joined n t′ ps bs)) _ (h ps bs) (record { number = refl; given = refl; begin = refl; size = refl; tx = refl; rx = refl; buffer = refl; next = refl })
   step-same c x (rooms p tx s h) = told-same c x (placeOf p (joined n t ps bs)) _ (h ps bs) (record { number = refl; given = refl; begin = refl; size = refl; tx = refl; rx = refl; buffer = refl; next = refl })
   step-same c x (sends r t′ tx tx′ s a k h w) =
-      let o : Outcome = sendOf (joined n t ps bs) (length tx) s a k in
-      written-same c x (answered r (joined n t′ ps bs)) o (h bs) refl refl refl refl refl (w bs) (none-lent (o .rx)) (none-lent (o .buffer))
+      let o : Outcome = answer (sendRule (joined n t ps bs) (length tx) s a k) tx in
+      written-same c x (pushedOf r n t′ ps bs) o (h bs) refl refl refl refl refl (w bs) (none-lent (o .rx)) (none-lent (o .buffer))
   step-same c x (drops r t′ s h) = told-same c x (answered r (joined n t′ ps bs)) _ (h ps bs) (record { number = refl; given = refl; begin = refl; size = refl; tx = refl; rx = refl; buffer = refl; next = refl })
   step-same c x (arrives r t′ rx m h) = told-same c x (calledOf r n t′ ps bs) _ h (record { number = refl; given = refl; begin = refl; size = refl; tx = refl; rx = refl; buffer = refl; next = refl })
   step-same c x (views p rx s h) = told-same c x (placeOf p (joined n t ps bs)) _ (h ps bs) (record { number = refl; given = refl; begin = refl; size = refl; tx = refl; rx = refl; buffer = refl; next = refl })
-  step-same c x (ends r t′ s h) = told-same c x (answered r (joined n t′ ps bs)) _ (h ps bs) (record { number = refl; given = refl; begin = refl; size = refl; tx = refl; rx = refl; buffer = refl; next = refl })
+  step-same c x (ends r t′ tx tx′ s h w) =
+      let o : Outcome = answer (doneRule (joined n t ps bs) (length tx) s) tx in
+      written-same c x (pushedOf r n t′ ps bs) o (h ps bs) refl refl refl refl refl (w ps bs) (none-lent (o .rx)) (none-lent (o .buffer))
   step-same c x (registers r t′ tx tx′ m h w) =
-      let o : Outcome = registerOf (joined n t ps bs) (length tx) m in
-      written-same c x (calledOf r n t′ ps bs) o h refl refl refl refl refl w (none-lent (o .rx)) (none-lent (o .buffer))
+      let o : Outcome = answer (registerRule (joined n t ps bs) (length tx) m) tx in
+      written-same c x (registeredOf r n t′ ps bs) o h refl refl refl refl refl w (none-lent (o .rx)) (none-lent (o .buffer))
   step-same c x (asksRoom r s l h) = told-same c x (answered r (joined n t ps bs)) _ (h ps bs) (record { number = refl; given = refl; begin = refl; size = refl; tx = refl; rx = refl; buffer = refl; next = refl })
   step-same c x (asksView r s l h) = told-same c x (answered r (joined n t ps bs)) _ (h ps bs) (record { number = refl; given = refl; begin = refl; size = refl; tx = refl; rx = refl; buffer = refl; next = refl })
 

@@ -14,7 +14,9 @@ use Rattle.link.specs.declared.Answer.{Answer}
 use Rattle.link.specs.declared.Answer.the-variants.{Accepted, Run, Control, Delivered, Refused}
 use Rattle.link.specs.declared.PacketAnswer.{PacketAnswer}
 use Rattle.link.specs.declared.Opened.{Opened}
+use Rattle.link.specs.declared.Pushed.{Pushed}
 use Rattle.link.specs.declared.Called.{Called}
+use Rattle.link.specs.declared.Registered.{Registered}
 use Rattle.link.specs.declared.RingCalled.{RingCalled}
 use Rattle.link.specs.declared.Place.{Place}
 use Rattle.link.specs.declared.End.{End as CodeEnd}
@@ -47,6 +49,18 @@ outcomeOf c = answered (c .answer) (endOf (c .end))
 abbrev pub calledOf : Called → Numbers → List ℕ → List Endpoint → List Binding → Outcome
 calledOf c n t ps bs = answered (c .answer) (joined n t (endpointsAfter (c .endpoint) ps) (bindingsAfter (c .binding) bs))
 
+-- the numbers with another own write index
+abbrev pub writing : Numbers → ℕ → Numbers
+writing n w = record { initiator = n .initiator; alignment = n .alignment; tx = n .tx; rx = n .rx; write = w; read = n .read }
+
+-- of send and done
+abbrev pub pushedOf : Pushed → Numbers → List ℕ → List Endpoint → List Binding → Outcome
+pushedOf c n t ps bs = answered (c .answer) (joined (writing n (c .write)) t ps bs)
+
+-- of a registration
+abbrev pub registeredOf : Registered → Numbers → List ℕ → List Endpoint → List Binding → Outcome
+registeredOf c n t ps bs = calledOf (c .called) (writing n (c .write)) t ps bs
+
 -- the code's end with what an arrival or a registration hands back; its numbers and its tables' bytes stay
 abbrev pub applied : Called → CodeEnd → CodeEnd
 applied c e =
@@ -55,6 +69,16 @@ applied c e =
       tables = e .tables;
       endpoints = endpointsAfter (c .endpoint) (e .endpoints);
       bindings = bindingsAfter (c .binding) (e .bindings);
+    }
+
+-- and with the own write index that a registration hands back
+abbrev pub registered : Registered → CodeEnd → CodeEnd
+registered c e =
+    record {
+      numbers = writing (e .numbers) (c .write);
+      tables = e .tables;
+      endpoints = endpointsAfter (c .called .endpoint) (e .endpoints);
+      bindings = bindingsAfter (c .called .binding) (e .bindings);
     }
 
 -- of start, push and pull: the length, 0 on a refusal, or what was dropped

@@ -1,22 +1,31 @@
 -- What a call on parts of an end says: answer and next parts are those of the rule, whatever the parts that the call is not given.
 use Prim.Native.Nat.{ℕ, _+_}
-use mathlib.Core.List.{List}
+use mathlib.Core.List.{List, _++_}
 use mathlib.Core.Path.{_≡_}
-use lib.ListN.{take, drop}
+use lib.ListN.{length, take, drop}
 use Rattle.wire.specs.Bytes.{wrote}
+use Rattle.wire.specs.Reads.{answer}
+use Rattle.refusal.specs.Numbers.{numberOf}
+use Rattle.refusal.specs.declared.Refusal.{Refusal}
+use Rattle.icmsg.specs.Rules.{Answer as RingAnswer, refused as ringNo, accepted as ringYes, dropped as ringDropped, Outcome as RingOutcome, pushRule as ringPush}
 use Rattle.blocks.specs.Names.{paddedName}
 use Rattle.endpoints.specs.Endpoints.{endpointsAfter, bindingsAfter, holds, bindingAt}
 use Rattle.endpoints.specs.declared.Endpoint.{Endpoint}
 use Rattle.endpoints.specs.declared.Binding.{Binding}
 use Rattle.icbmsg.specs.Regions.{blockCount}
-use Rattle.icbmsg.specs.Outcome.{Outcome}
-use Rattle.icbmsg.specs.Registering.{initiates, followed}
+use Rattle.icbmsg.specs.Outcome.{Outcome, withoutWrites}
+use Rattle.icbmsg.specs.Rings.{ringOf, allOrNothing}
+use Rattle.icbmsg.specs.Registering.{boundToStored, followed}
 use Rattle.icbmsg.specs.End.{End}
 use Rattle.icbmsg.specs.declared.Numbers.{Numbers}
 use Rattle.checks.specs.Parts.{joined}
-use Rattle.link.specs.Answers.{answered, calledOf, ringCalledOf, placeOf}
+use Rattle.link.specs.Answers.{answered, pushedOf, calledOf, registeredOf, ringCalledOf, placeOf}
 use Rattle.link.specs.declared.Answer.{Answer}
+use Rattle.link.specs.declared.Answer.the-variants.{Refused}
+use Rattle.link.specs.declared.Pushed.{Pushed}
 use Rattle.link.specs.declared.Called.{Called}
+use Rattle.link.specs.declared.Registered.{Registered}
+use Rattle.link.specs.declared.announcements.Handed.{Handed}
 use Rattle.link.specs.declared.RingCalled.{RingCalled}
 use Rattle.link.specs.declared.Place.{Place}
 
@@ -24,12 +33,19 @@ use Rattle.link.specs.declared.Place.{Place}
 abbrev pub OnTables : (End → Outcome) → Numbers → List ℕ → Answer → List ℕ → Type 0
 OnTables f n t r t′ = (ps : List Endpoint) (bs : List Binding) → answered r (joined n t′ ps bs) ≡ f (joined n t ps bs)
 
--- given the endpoints too, and lent transmit bytes, s before and s′ after
-abbrev pub OnEndpoints : (End → Outcome) → Numbers → List ℕ → List Endpoint → Answer → List ℕ → Type 0
-OnEndpoints f n t ps r t′ = (bs : List Binding) → answered r (joined n t′ ps bs) ≡ f (joined n t ps bs)
+-- given the endpoints too, and lent transmit bytes, s before and s′ after: a call that moves the own write index on
+abbrev pub PushedOn : (End → Outcome) → Numbers → List ℕ → List Endpoint → Pushed → List ℕ → Type 0
+PushedOn f n t ps r t′ = (bs : List Binding) → pushedOf r n t′ ps bs ≡ f (joined n t ps bs)
 
 abbrev pub WritesTx : (End → Outcome) → Numbers → List ℕ → List Endpoint → List ℕ → List ℕ → Type 0
 WritesTx f n t ps s s′ = (bs : List Binding) → s′ ≡ wrote s (f (joined n t ps bs) .tx)
+
+-- and such a call that is not given the endpoints
+abbrev pub PushedOnTables : (End → Outcome) → Numbers → List ℕ → Pushed → List ℕ → Type 0
+PushedOnTables f n t r t′ = (ps : List Endpoint) → PushedOn f n t ps r t′
+
+abbrev pub WritesTxOnTables : (End → Outcome) → Numbers → List ℕ → List ℕ → List ℕ → Type 0
+WritesTxOnTables f n t s s′ = (ps : List Endpoint) → WritesTx f n t ps s s′
 
 -- given the numbers alone
 abbrev pub OnNumbers : (End → Outcome) → Numbers → RingCalled → Type 0
@@ -50,7 +66,25 @@ PartOf f n t s r = (ps : List Endpoint) (bs : List Binding) → let o = f (joine
 abbrev pub BeginsAt : (End → Outcome) → Numbers → List ℕ → ℕ → ℕ → Type 0
 BeginsAt f n t q q′ = (ps : List Endpoint) (bs : List Binding) → q′ ≡ q + f (joined n t ps bs) .begin
 
--- ---- on the way: the private functions of arrivals and registrations
+-- ---- on the way: a control message on the transmit ring
+
+-- what the ring answered
+abbrev pub HandedAs : Handed → RingAnswer → Type 0
+HandedAs (Handed.Refused x) (ringNo n) = numberOf x ≡ n
+HandedAs (Handed.Refused x) (ringYes k i) = ⊥
+HandedAs (Handed.Refused x) (ringDropped n i) = numberOf x ≡ 9
+HandedAs (Handed.At w) (ringNo n) = ⊥
+HandedAs (Handed.At w) (ringYes k i) = w ≡ i
+HandedAs (Handed.At w) (ringDropped n i) = ⊥
+
+-- the writes ws, then the push of c on the transmit ring in the bytes s, which are s′ then: all or nothing
+abbrev pub HandsOn : Handed → Numbers → List ℕ → List (ℕ × ℕ) → List ℕ → List ℕ → Type 0
+HandsOn (Handed.Refused x) n s ws c s′ = HandedAs (Handed.Refused x) (ringPush s (ringOf (n .alignment) (n .tx)) (n .write) c .answer) × (s′ ≡ s)
+HandsOn (Handed.At w) n s ws c s′ =
+    let p : RingOutcome = ringPush s (ringOf (n .alignment) (n .tx)) (n .write) c in
+    HandedAs (Handed.At w) (p .answer) × (s′ ≡ wrote s (ws ++ p .region))
+
+-- ---- the private functions of arrivals and registrations
 
 -- an answer that changes no endpoint and no binding
 pub record SaysOnly (r : Called) (a : Answer) : Type 0 where
@@ -62,11 +96,39 @@ pub record SaysOnly (r : Called) (a : Answer) : Type 0 where
 abbrev pub ChangesEndpoints : (End → Outcome) → Numbers → List ℕ → List Endpoint → Called → List ℕ → Type 0
 ChangesEndpoints f n t ps r t′ = (bs : List Binding) → calledOf r n t′ ps bs ≡ f (joined n t ps bs)
 
--- what the initiator's part of a registration writes, and the follower's part
-abbrev pub InitiatesTx : Numbers → List ℕ → List Endpoint → List ℕ → ℕ → List ℕ → List ℕ → Type 0
-InitiatesTx n t ps name i s s′ = (bs : List Binding) → s′ ≡ wrote s (initiates (joined n t ps bs) name i .tx)
+-- a refused registration
+pub record SaysNothing (r : Registered) (n : Numbers) (x : Refusal) : Type 0 where
+  pub only : SaysOnly (r .called) (Refused x)
+  pub write : r .write ≡ n .write
 
-abbrev pub Follows : Called → Numbers → List ℕ → List Binding → List ℕ → ℕ → List ℕ → Type 0
-Follows r n t bs kept i t′ =
-    (ps : List Endpoint) (name : List ℕ) → kept ≡ paddedName name →
-    calledOf r n t′ ps bs ≡ followed (joined n t ps bs) name i (bindingAt (holds (blockCount (n .rx)) name) bs)
+-- a rule f and its push, with transmit bytes s lent, which are s′ then
+abbrev pub behindRing : End → List ℕ → Outcome → Outcome
+behindRing e s o = answer (allOrNothing e (length s) o) s
+
+-- the initiator's part of a registration
+abbrev pub Registers : (End → Outcome) → Registered → Numbers → List ℕ → List Endpoint → List ℕ → List ℕ → Type 0
+Registers f r n t ps s t′ = (bs : List Binding) → let e : End = joined n t ps bs in registeredOf r n t′ ps bs ≡ withoutWrites (behindRing e s (f e))
+
+abbrev pub RegistersTx : (End → Outcome) → Numbers → List ℕ → List Endpoint → List ℕ → List ℕ → Type 0
+RegistersTx f n t ps s s′ = (bs : List Binding) → let e : End = joined n t ps bs in s′ ≡ wrote s (behindRing e s (f e) .tx)
+
+-- the follower's part: where the stored binding at place j is taken over, and where one may be
+abbrev pub BindsStored : Registered → Numbers → List ℕ → Binding → List ℕ → List ℕ → ℕ → ℕ → List ℕ → Type 0
+BindsStored r n t b s kept i j t′ =
+    (ps : List Endpoint) (bs : List Binding) (name : List ℕ) → kept ≡ paddedName name → let e : End = joined n t ps bs in
+    registeredOf r n t′ ps bs ≡ withoutWrites (behindRing e s (boundToStored e name i j b))
+
+abbrev pub BindsStoredTx : Numbers → List ℕ → Binding → List ℕ → List ℕ → ℕ → ℕ → List ℕ → Type 0
+BindsStoredTx n t b s kept i j s′ =
+    (ps : List Endpoint) (bs : List Binding) (name : List ℕ) → kept ≡ paddedName name → let e : End = joined n t ps bs in
+    s′ ≡ wrote s (behindRing e s (boundToStored e name i j b) .tx)
+
+abbrev pub Follows : Registered → Numbers → List ℕ → List Binding → List ℕ → List ℕ → ℕ → List ℕ → Type 0
+Follows r n t bs s kept i t′ =
+    (ps : List Endpoint) (name : List ℕ) → kept ≡ paddedName name → let e : End = joined n t ps bs in
+    registeredOf r n t′ ps bs ≡ withoutWrites (behindRing e s (followed e name i (bindingAt (holds (blockCount (n .rx)) name) bs)))
+
+abbrev pub FollowsTx : Numbers → List ℕ → List Binding → List ℕ → List ℕ → ℕ → List ℕ → Type 0
+FollowsTx n t bs s kept i s′ =
+    (ps : List Endpoint) (name : List ℕ) → kept ≡ paddedName name → let e : End = joined n t ps bs in
+    s′ ≡ wrote s (behindRing e s (followed e name i (bindingAt (holds (blockCount (n .rx)) name) bs)) .tx)

@@ -12,19 +12,21 @@ use Rattle.endpoints.specs.declared.Endpoint.{Endpoint}
 use Rattle.endpoints.specs.declared.Binding.{Binding}
 use Rattle.icbmsg.specs.Outcome.{Given, Outcome, withoutWrites}
 use Rattle.icbmsg.specs.Opening.{opening}
-use Rattle.icbmsg.specs.Rings.{startOf, pushOf, pullRule}
-use Rattle.icbmsg.specs.Messages.{reserveOf, roomOf, sendOf, dropOf, viewOf, doneOf, roomQuestion, viewQuestion}
-use Rattle.icbmsg.specs.Registering.{registerOf}
+use Rattle.icbmsg.specs.Rings.{startOf, pushRule, pullRule}
+use Rattle.icbmsg.specs.Messages.{reserveOf, roomOf, sendRule, dropOf, viewOf, doneRule, roomQuestion, viewQuestion}
+use Rattle.icbmsg.specs.Registering.{registerRule}
 use Rattle.icbmsg.specs.Arrivals.{arrivalRule}
 use Rattle.icbmsg.specs.Calls.{Call, Lent, lent, run, start, push, pull, reserve, room, send, drop, arrival, view, done, register, askRoom, askView}
 use Rattle.icbmsg.specs.End.{End}
 use Rattle.icbmsg.specs.declared.Numbers.{Numbers}
 use Rattle.icbmsg.specs.declared.Opening.{Opening}
 use Rattle.checks.specs.Parts.{joined}
-use Rattle.link.specs.Answers.{answerNumber, answerGiven, packetNumber, packetGiven, outcomeOf, calledOf}
-use Rattle.link.specs.Parts.{OnTables, OnEndpoints, WritesTx, OnNumbers, Writes, AtPlace}
+use Rattle.link.specs.Answers.{answerNumber, answerGiven, packetNumber, packetGiven, outcomeOf, writing, calledOf, registeredOf}
+use Rattle.link.specs.Parts.{OnTables, PushedOn, WritesTx, PushedOnTables, WritesTxOnTables, OnNumbers, Writes, AtPlace}
 use Rattle.link.specs.declared.Answer.{Answer}
+use Rattle.link.specs.declared.Pushed.{Pushed}
 use Rattle.link.specs.declared.Called.{Called}
+use Rattle.link.specs.declared.Registered.{Registered}
 use Rattle.link.specs.declared.Opened.{Opened}
 use Rattle.link.specs.declared.PacketAnswer.{PacketAnswer}
 use Rattle.link.specs.declared.RingCalled.{RingCalled}
@@ -75,22 +77,23 @@ inRx s b = record { tx = []; rx = s; buffer = b }
 pub data Step (n : Numbers) (t : List ℕ) (ps : List Endpoint) (bs : List Binding) : Call → Seen → Type 0 where
   starts : (r : RingCalled) (tx tx′ : List ℕ) → OnNumbers (λ e. withoutWrites (startOf e (length tx))) n r → Writes (λ o. o .tx) (λ e. startOf e (length tx)) n tx tx′ →
       Step n t ps bs (start tx) (toldOfRing (r .answer) (inTx tx′) (with (r .numbers) t ps bs))
-  pushes : (r : RingCalled) (tx tx′ c : List ℕ) → OnNumbers (λ e. withoutWrites (pushOf e tx c)) n r → Writes (λ o. o .tx) (λ e. pushOf e tx c) n tx tx′ →
+  pushes : (r : RingCalled) (tx tx′ c : List ℕ) → OnNumbers (λ e. withoutWrites (answer (pushRule e (length tx) c) tx)) n r → Writes (λ o. o .tx) (λ e. answer (pushRule e (length tx) c) tx) n tx tx′ →
       Step n t ps bs (push tx c) (toldOfRing (r .answer) (inTx tx′) (with (r .numbers) t ps bs))
   pulls : (r : RingCalled) (rx rx′ b b′ : List ℕ) → OnNumbers (λ e. withoutWrites (answer (pullRule e (length rx) (length b)) rx)) n r →
       Writes (λ o. o .rx) (λ e. answer (pullRule e (length rx) (length b)) rx) n rx rx′ → Writes (λ o. o .buffer) (λ e. answer (pullRule e (length rx) (length b)) rx) n b b′ →
       Step n t ps bs (pull rx b) (toldOfRing (r .answer) (inRx rx′ b′) (with (r .numbers) t ps bs))
   reserves : (r : Answer) (t′ : List ℕ) (k : ℕ) → OnTables (λ e. reserveOf e k) n t r t′ → Step n t ps bs (reserve k) (told r (inTx []) (with n t′ ps bs))
   rooms : (p : Place) (tx : List ℕ) (s : ℕ) → AtPlace (λ e. roomOf e (length tx) s) n t p → Step n t ps bs (room tx s) (toldAt p (inTx tx) (with n t ps bs))
-  sends : (r : Answer) (t′ tx tx′ : List ℕ) (s a k : ℕ) → OnEndpoints (λ e. withoutWrites (sendOf e (length tx) s a k)) n t ps r t′ → WritesTx (λ e. sendOf e (length tx) s a k) n t ps tx tx′ →
-      Step n t ps bs (send tx s a k) (told r (inTx tx′) (with n t′ ps bs))
+  sends : (r : Pushed) (t′ tx tx′ : List ℕ) (s a k : ℕ) → PushedOn (λ e. withoutWrites (answer (sendRule e (length tx) s a k) tx)) n t ps r t′ → WritesTx (λ e. answer (sendRule e (length tx) s a k) tx) n t ps tx tx′ →
+      Step n t ps bs (send tx s a k) (told (r .answer) (inTx tx′) (with (writing n (r .write)) t′ ps bs))
   drops : (r : Answer) (t′ : List ℕ) (s : ℕ) → OnTables (λ e. dropOf e s) n t r t′ → Step n t ps bs (drop s) (told r (inTx []) (with n t′ ps bs))
   arrives : (r : Called) (t′ rx m : List ℕ) → calledOf r n t′ ps bs ≡ answer (arrivalRule (joined n t ps bs) (length rx) m) rx →
       Step n t ps bs (arrival rx m) (told (r .answer) (inRx rx []) (after r n t′ ps bs))
   views : (p : Place) (rx : List ℕ) (s : ℕ) → AtPlace (λ e. viewOf e (length rx) s) n t p → Step n t ps bs (view rx s) (toldAt p (inRx rx []) (with n t ps bs))
-  ends : (r : Answer) (t′ : List ℕ) (s : ℕ) → OnTables (λ e. doneOf e s) n t r t′ → Step n t ps bs (done s) (told r (inTx []) (with n t′ ps bs))
-  registers : (r : Called) (t′ tx tx′ m : List ℕ) → calledOf r n t′ ps bs ≡ withoutWrites (registerOf (joined n t ps bs) (length tx) m) → tx′ ≡ wrote tx (registerOf (joined n t ps bs) (length tx) m .tx) →
-      Step n t ps bs (register tx m) (told (r .answer) (inTx tx′) (after r n t′ ps bs))
+  ends : (r : Pushed) (t′ tx tx′ : List ℕ) (s : ℕ) → PushedOnTables (λ e. withoutWrites (answer (doneRule e (length tx) s) tx)) n t r t′ →
+      WritesTxOnTables (λ e. answer (doneRule e (length tx) s) tx) n t tx tx′ → Step n t ps bs (done tx s) (told (r .answer) (inTx tx′) (with (writing n (r .write)) t′ ps bs))
+  registers : (r : Registered) (t′ tx tx′ m : List ℕ) → registeredOf r n t′ ps bs ≡ withoutWrites (answer (registerRule (joined n t ps bs) (length tx) m) tx) →
+      tx′ ≡ wrote tx (answer (registerRule (joined n t ps bs) (length tx) m) tx .tx) → Step n t ps bs (register tx m) (told (r .called .answer) (inTx tx′) (after (r .called) (writing n (r .write)) t′ ps bs))
   asksRoom : (r : Answer) (s l : ℕ) → OnTables (λ e. roomQuestion e s l) n t r t → Step n t ps bs (askRoom s l) (told r (inTx []) (with n t ps bs))
   asksView : (r : Answer) (s l : ℕ) → OnTables (λ e. viewQuestion e s l) n t r t → Step n t ps bs (askView s l) (told r (inTx []) (with n t ps bs))
 

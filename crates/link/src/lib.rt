@@ -1,6 +1,8 @@
 // One end of the link, as code: its state in four parts, and its calls by family: openings, rings, messages, arrivals, registrations. A call is
 // an associated function on the parts that it needs. The tables are changed in place; what else changes is handed back. A refused call
-// changes nothing, but that a pull drops what is unread at a broken packet.
+// changes nothing, but that a pull drops what is unread at a broken packet. Send, done and register push their control message themselves, all or
+// nothing.
+mod announcements;
 mod arrivals;
 mod messages;
 mod openings;
@@ -8,7 +10,7 @@ mod registrations;
 mod rings;
 
 ghost use mathlib.Core.Path.{_≡_};
-ghost use Rattle.link.specs.Answers.{applied as appliedTo};
+ghost use Rattle.link.specs.Answers.{applied as appliedTo, registered as registeredTo};
 use endpoints::Binding;
 use endpoints::BindingChange;
 use endpoints::Endpoint;
@@ -49,7 +51,7 @@ pub enum Answer {
     Accepted,
     // A reservation: its first block, and how many.
     Run { start: u32, count: u32 },
-    // A control message that is to be pushed: its three bytes.
+    // A control message, its three bytes: pushed already, but where it answers an arrival; then it is to be pushed.
     Control { kind: u8, address: u8, block: u8 },
     // A data message that has arrived: its endpoint's address, its first block and its length.
     Delivered { address: u8, block: u8, length: u32 },
@@ -83,6 +85,12 @@ pub struct RingCalled {
     pub numbers: Numbers,
 }
 
+// What send and done answer, and the own write index afterwards.
+pub struct Pushed {
+    pub answer: Answer,
+    pub write: u32,
+}
+
 // What an arrival or a registration answers, and what it changes of the endpoints and the stored bindings.
 pub struct Called {
     pub answer: Answer,
@@ -103,6 +111,24 @@ impl Called {
         let bindings = end.bindings;
         let bindings = binding.applied(bindings);
         end.bindings = bindings;
+        end
+    }
+}
+
+// What a registration answers and changes, and the own write index afterwards.
+pub struct Registered {
+    pub called: Called,
+    pub write: u32,
+}
+
+impl Registered {
+    // The end after the call, as of an arrival, with its own write index.
+    pub fn applied(self, end: End) -> End
+        ensures { λ r. ⌜ r ≡ registeredTo self end ⌝ }
+    {
+        let called = self.called;
+        let mut end = called.applied(end);
+        end.numbers.write = self.write;
         end
     }
 }

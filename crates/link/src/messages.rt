@@ -1,13 +1,18 @@
 // The calls on messages: reserve, room, send, drop, view, done, and the two questions (docs/RULES.md, B and V).
 ghost use mathlib.Core.Path.{_≡_};
 ghost use lib.ListN.{length};
+ghost use Rattle.wire.specs.Reads.{answer};
 ghost use Rattle.icbmsg.specs.Outcome.{withoutWrites};
-ghost use Rattle.link.specs.Parts.{OnTables, OnEndpoints, WritesTx, AtPlace, PartOf, BeginsAt};
+ghost use Rattle.link.specs.Parts.{OnTables, PushedOn, WritesTx, PushedOnTables, WritesTxOnTables, AtPlace, PartOf, BeginsAt};
 ghost use Rattle.link.specs.declared.Answer.{Answer};
-ghost use Rattle.icbmsg.specs.Messages.{reserveOf, roomOf, sendOf, dropOf, viewOf, doneOf, roomQuestion, viewQuestion};
+ghost use Rattle.icbmsg.specs.Messages.{reserveOf, roomOf, sendRule, dropOf, viewOf, doneRule, roomQuestion, viewQuestion};
 use crate::Answer;
 use crate::End;
 use crate::Place;
+use crate::Pushed;
+use crate::announcements::Handed;
+use crate::announcements::announce_data;
+use crate::announcements::push_control;
 use blocks::Use;
 use checks::Run;
 use checks::Sending;
@@ -24,6 +29,16 @@ fn nowhere(x: Refusal) -> Place
         answer: Answer::Refused(x),
         begin: 0,
         size: 0,
+    }
+}
+
+// A refusal pushes nothing.
+fn refused(n: Numbers, x: Refusal) -> Pushed
+    ensures { λ r. ⌜ r ≡ record { answer = Answer.Refused x; write = n .write } ⌝ }
+{
+    Pushed {
+        answer: Answer::Refused(x),
+        write: n.write,
     }
 }
 
@@ -98,7 +113,7 @@ impl End {
         place.answer
     }
 
-    // Sends the first k bytes of a reservation's room: writes the header, and frees the blocks beyond the need.
+    // Sends the first k bytes of a reservation's room: writes the header, frees the blocks beyond the need, and pushes the announcement.
     pub fn send(
         numbers: Numbers,
         endpoints: [Endpoint; End::ENDPOINTS],
@@ -107,27 +122,35 @@ impl End {
         start: u32,
         address: u32,
         k: u32,
-    ) -> Answer
-        ensures answer { λ r. ⌜ OnEndpoints (λ e. withoutWrites (sendOf e (length (now (tx .entry))) start address k)) numbers (now (tables .entry)) endpoints r (now (tables .exit)) ⌝ }
-        ensures tx { λ _. ⌜ WritesTx (λ e. sendOf e (length (now (tx .entry))) start address k) numbers (now (tables .entry)) endpoints (now (tx .entry)) (now (tx .exit)) ⌝ }
+    ) -> Pushed
+        ensures answer { λ r. ⌜ PushedOn (λ e. withoutWrites (answer (sendRule e (length (now (tx .entry))) start address k) (now (tx .entry)))) numbers (now (tables .entry)) endpoints r (now (tables .exit)) ⌝ }
+        ensures tx { λ _. ⌜ WritesTx (λ e. answer (sendRule e (length (now (tx .entry))) start address k) (now (tx .entry))) numbers (now (tables .entry)) endpoints (now (tx .entry)) (now (tx .exit)) ⌝ }
     {
         let t = &mut tables[..];
         match checks::send(numbers, t, endpoints, tx.len(), start, address, k) {
-            Sending::Refused(x) => Answer::Refused(x),
+            Sending::Refused(x) => refused(numbers, x),
             Sending::Fits {
                 address,
                 held,
                 count,
             } => {
                 let s = start as usize;
-                let header = numbers.tx.blocks_offset as usize + s * numbers.tx.block_size as usize;
-                wire::write_u32(tx, header, k);
-                tables::free_run(t, tables::SENT, s, held);
-                tables::take_run(t, tables::SENT, Use::SentData, s, count, address, k);
-                Answer::Control {
-                    kind: 0,
-                    address,
-                    block: start as u8,
+                let block = start as u8;
+                let at = numbers.tx.blocks_offset as usize + s * numbers.tx.block_size as usize;
+                match announce_data(numbers, tx, at, k, [0, address, block]) {
+                    Handed::Refused(x) => refused(numbers, x),
+                    Handed::At(write) => {
+                        tables::free_run(t, tables::SENT, s, held);
+                        tables::take_run(t, tables::SENT, Use::SentData, s, count, address, k);
+                        Pushed {
+                            answer: Answer::Control {
+                                kind: 0,
+                                address,
+                                block,
+                            },
+                            write,
+                        }
+                    }
                 }
             }
         }
@@ -201,20 +224,35 @@ impl End {
         place.answer
     }
 
-    // Ends the reading of a received data message: its blocks are free again.
-    pub fn done(numbers: Numbers, tables: &mut [u8; End::TABLES], start: u32) -> Answer
-        ensures { λ r. ⌜ OnTables (λ e. doneOf e start) numbers (now (tables .entry)) r (now (tables .exit)) ⌝ }
+    // Ends the reading of a received data message: its blocks are free again, and its release is pushed.
+    pub fn done(
+        numbers: Numbers,
+        tables: &mut [u8; End::TABLES],
+        tx: &mut [u8],
+        start: u32,
+    ) -> Pushed
+        ensures answer { λ r. ⌜ PushedOnTables (λ e. withoutWrites (answer (doneRule e (length (now (tx .entry))) start) (now (tx .entry)))) numbers (now (tables .entry)) r (now (tables .exit)) ⌝ }
+        ensures tx { λ _. ⌜ WritesTxOnTables (λ e. answer (doneRule e (length (now (tx .entry))) start) (now (tx .entry))) numbers (now (tables .entry)) (now (tx .entry)) (now (tx .exit)) ⌝ }
     {
         let t = &mut tables[..];
-        let open = checks::is_open(numbers);
-        match checks::received(open, t, numbers.rx, start) {
-            Run::Refused(x) => Answer::Refused(x),
+        let whole = checks::is_whole(numbers, numbers.tx, tx.len());
+        match checks::received(whole, t, numbers.rx, start) {
+            Run::Refused(x) => refused(numbers, x),
             Run::Live(x) => {
-                tables::free_run(t, tables::HELD, start as usize, x.count as usize);
-                Answer::Control {
-                    kind: 1,
-                    address: 0,
-                    block: start as u8,
+                let block = start as u8;
+                match push_control(numbers, tx, [1, 0, block]) {
+                    Handed::Refused(y) => refused(numbers, y),
+                    Handed::At(write) => {
+                        tables::free_run(t, tables::HELD, start as usize, x.count as usize);
+                        Pushed {
+                            answer: Answer::Control {
+                                kind: 1,
+                                address: 0,
+                                block,
+                            },
+                            write,
+                        }
+                    }
                 }
             }
         }

@@ -6,7 +6,7 @@ ghost use Rattle.icmsg.specs.Rules.{answerOf, answerNumber};
 ghost use Rattle.icbmsg.specs.Outcome.{aLength, withoutWrites};
 ghost use Rattle.link.specs.Answers.{packetNumber, packetGiven, givenIn};
 ghost use Rattle.link.specs.Parts.{OnNumbers, Writes};
-ghost use Rattle.icbmsg.specs.Rings.{ringOf, startOf, pushOf, pullRule};
+ghost use Rattle.icbmsg.specs.Rings.{ringOf, startOf, pushRule, pullRule};
 use crate::End;
 use crate::PacketAnswer;
 use crate::RingCalled;
@@ -17,7 +17,7 @@ use icmsg::RingAnswer;
 use refusal::Refusal;
 
 // The ring of a region.
-fn ring_of(a: u16, g: Region) -> Ring
+pub fn ring_of(a: u16, g: Region) -> Ring
     ensures { λ r. ⌜ r ≡ ringOf a g ⌝ }
 {
     Ring {
@@ -68,8 +68,8 @@ impl End {
 
     // Puts a packet with the content on the transmit ring.
     pub fn push(mut numbers: Numbers, tx: &mut [u8], content: &[u8]) -> RingCalled
-        ensures answer { λ r. ⌜ OnNumbers (λ e. withoutWrites (pushOf e (now (tx .entry)) (now (content .entry)))) numbers r ⌝ }
-        ensures tx { λ _. ⌜ Writes (λ o. o .tx) (λ e. pushOf e (now (tx .entry)) (now (content .entry))) numbers (now (tx .entry)) (now (tx .exit)) ⌝ }
+        ensures answer { λ r. ⌜ OnNumbers (λ e. withoutWrites (answer (pushRule e (length (now (tx .entry))) (now (content .entry))) (now (tx .entry)))) numbers r ⌝ }
+        ensures tx { λ _. ⌜ Writes (λ o. o .tx) (λ e. answer (pushRule e (length (now (tx .entry))) (now (content .entry))) (now (tx .entry))) numbers (now (tx .entry)) (now (tx .exit)) ⌝ }
     {
         if !checks::is_whole(numbers, numbers.tx, tx.len()) {
             return refused(numbers);

@@ -2,6 +2,7 @@
 // checksum of what they answered. bench/calls.c makes the same rounds with an end in plain C, and compares.
 use blocks::Found;
 use icbmsg::Bounds;
+use icbmsg::Numbers;
 use icbmsg::Opening;
 use link::Answer;
 use link::End;
@@ -100,8 +101,7 @@ fn bound(fresh: End, tx: &mut [u8], rx: &[u8]) -> End {
         tx,
         &name,
     );
-    let waiting = registered.endpoint;
-    end.endpoints = waiting.applied(end.endpoints);
+    end = registered.applied(end);
     let message = [3u8, 0, 0];
     let released = End::arrival(
         end.numbers,
@@ -111,9 +111,19 @@ fn bound(fresh: End, tx: &mut [u8], rx: &[u8]) -> End {
         rx,
         &message,
     );
-    let bound = released.endpoint;
-    end.endpoints = bound.applied(end.endpoints);
-    end
+    released.applied(end)
+}
+
+// The partner takes off all that is pushed: it writes its read index. Else the ring would be full after some rounds.
+fn take_off(n: Numbers, tx: &mut [u8]) {
+    let at = n.tx.ring_offset as usize;
+    let write = n.write;
+    if at + 4 <= tx.len() {
+        tx[at] = (write % 256) as u8;
+        tx[at + 1] = (write / 256 % 256) as u8;
+        tx[at + 2] = (write / 65536 % 256) as u8;
+        tx[at + 3] = (write / 16777216 % 256) as u8;
+    }
 }
 
 // Reserves k bytes and drops them. Of the first `taken` blocks each `every`-th is reserved before, or all where `every` is 0.
@@ -153,7 +163,7 @@ pub extern "C" fn petrelknob_rounds_send(
     let mut i: u32 = 0;
     while i < rounds {
         let run = End::reserve(end.numbers, &mut end.tables, k);
-        let order = End::send(
+        let pushed = End::send(
             end.numbers,
             end.endpoints,
             &mut end.tables,
@@ -162,6 +172,9 @@ pub extern "C" fn petrelknob_rounds_send(
             0,
             k,
         );
+        let order = pushed.answer;
+        end.numbers.write = pushed.write;
+        take_off(end.numbers, tx);
         let released = End::arrival(
             end.numbers,
             end.endpoints,
@@ -215,7 +228,10 @@ pub extern "C" fn petrelknob_rounds_arrival(
                 end.endpoints[j] = endpoint;
             }
         }
-        let order = End::done(end.numbers, &mut end.tables, 0);
+        let pushed = End::done(end.numbers, &mut end.tables, tx, 0);
+        let order = pushed.answer;
+        end.numbers.write = pushed.write;
+        take_off(end.numbers, tx);
         sum = added(added(sum, delivered), order);
         i += 1;
     }

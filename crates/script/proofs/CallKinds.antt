@@ -9,11 +9,11 @@ use borrow.Author.Tests.{leb-true, eqb-true, ne-eqb}
 use Rattle.wire.specs.Choice.{pick}
 use Rattle.wire.specs.Reads.{answer}
 use Rattle.icbmsg.specs.Outcome.{Outcome, withoutWrites}
-use Rattle.icbmsg.specs.Rings.{startOf, pushOf}
-use Rattle.icbmsg.specs.Messages.{reserveOf, roomOf, sendOf, dropOf, viewOf, doneOf, roomQuestion, viewQuestion}
-use Rattle.icbmsg.specs.Registering.{registerOf}
+use Rattle.icbmsg.specs.Rings.{startOf, pushRule}
+use Rattle.icbmsg.specs.Messages.{reserveOf, roomOf, sendRule, dropOf, viewOf, doneRule, roomQuestion, viewQuestion}
+use Rattle.icbmsg.specs.Registering.{registerRule}
 use Rattle.icbmsg.specs.Arrivals.{arrivalRule}
-use Rattle.icbmsg.specs.Calls.{rule, lent, step, pull}
+use Rattle.icbmsg.specs.Calls.{rule, readFrom, step, pull}
 use Rattle.icbmsg.specs.End.{End}
 use Rattle.script.specs.Rows.{replyOf}
 use Rattle.script.specs.Records.{numberAt, bodyOf, admits, has}
@@ -31,19 +31,19 @@ but-for-writes h e = record { reply = h .reply ∙ ap replyOf e; end = h .end �
 
 module _ (e : End) (b tx rx buffer : List ℕ) (k : ℕ) where
   pub kind-0 : k ≡ 0 → answer (arrivalRule e (length rx) b) rx ≡ callOutcome e k b tx rx buffer
-  unfolding callOf step rule lent
+  unfolding callOf step rule readFrom
   kind-0 h = rw h
 
-  pub kind-1 : k ≡ 1 → registerOf e (length tx) b ≡ callOutcome e k b tx rx buffer
-  unfolding callOf step rule lent
+  pub kind-1 : k ≡ 1 → answer (registerRule e (length tx) b) tx ≡ callOutcome e k b tx rx buffer
+  unfolding callOf step rule readFrom
   kind-1 h = rw h
 
-  pub kind-6 : k ≡ 6 → pushOf e tx b ≡ callOutcome e k b tx rx buffer
-  unfolding callOf step rule lent
+  pub kind-6 : k ≡ 6 → answer (pushRule e (length tx) b) tx ≡ callOutcome e k b tx rx buffer
+  unfolding callOf step rule readFrom
   kind-6 h = rw h
 
   pub kind-16 : k ≡ 16 → startOf e (length tx) ≡ callOutcome e k b tx rx buffer
-  unfolding callOf step rule lent
+  unfolding callOf step rule readFrom
   kind-16 h = rw h
 
   pub kind-17 : (n : ℕ) → n ≡ numberAt 2 b 0 → k ≡ 17 → step e (pull rx (take n buffer)) ≡ callOutcome e k b tx rx buffer
@@ -52,32 +52,32 @@ module _ (e : End) (b tx rx buffer : List ℕ) (k : ℕ) where
 
   module _ (s : ℕ) (i : s ≡ numberAt 4 b 0) where
     pub kind-2 : k ≡ 2 → reserveOf e s ≡ callOutcome e k b tx rx buffer
-    unfolding callOf step rule lent
+    unfolding callOf step rule readFrom
     kind-2 h = rw (h, i)
 
     pub kind-4 : k ≡ 4 → dropOf e s ≡ callOutcome e k b tx rx buffer
-    unfolding callOf step rule lent
+    unfolding callOf step rule readFrom
     kind-4 h = rw (h, i)
 
-    pub kind-5 : k ≡ 5 → doneOf e s ≡ callOutcome e k b tx rx buffer
-    unfolding callOf step rule lent
+    pub kind-5 : k ≡ 5 → answer (doneRule e (length tx) s) tx ≡ callOutcome e k b tx rx buffer
+    unfolding callOf step rule readFrom
     kind-5 h = rw (h, i)
 
     pub kind-18 : k ≡ 18 → roomOf e (length tx) s ≡ callOutcome e k b tx rx buffer
-    unfolding callOf step rule lent
+    unfolding callOf step rule readFrom
     kind-18 h = rw (h, i)
 
     pub kind-19 : k ≡ 19 → viewOf e (length rx) s ≡ callOutcome e k b tx rx buffer
-    unfolding callOf step rule lent
+    unfolding callOf step rule readFrom
     kind-19 h = rw (h, i)
 
     module _ (n : ℕ) (j : n ≡ numberAt 4 b 4) where
-      pub kind-3 : (m : ℕ) → m ≡ numberAt 4 b 8 → k ≡ 3 → sendOf e (length tx) s n m ≡ callOutcome e k b tx rx buffer
-      unfolding callOf step rule lent
+      pub kind-3 : (m : ℕ) → m ≡ numberAt 4 b 8 → k ≡ 3 → answer (sendRule e (length tx) s n m) tx ≡ callOutcome e k b tx rx buffer
+      unfolding callOf step rule readFrom
       kind-3 m l h = rw (h, i, j, l)
 
       pub kind-20 : k ≡ 20 → roomQuestion e s n ≡ callOutcome e k b tx rx buffer
-      unfolding callOf step rule lent
+      unfolding callOf step rule readFrom
       kind-20 h = rw (h, i, j)
 
 -- ---- the last kind of call is the one that is left
@@ -97,7 +97,7 @@ pub record LastCall (k : ℕ) : Type 0 where
   pub n20 : k ≡ 20 → ⊥
 
 pub kind-21 : (e : End) (b tx rx buffer : List ℕ) (k : ℕ) (s : ℕ) → s ≡ numberAt 4 b 0 → (n : ℕ) → n ≡ numberAt 4 b 4 → LastCall k → viewQuestion e s n ≡ callOutcome e k b tx rx buffer
-unfolding callOf step rule lent
+unfolding callOf step rule readFrom
 kind-21 e b tx rx buffer k s i n j h =
     rw (ne-eqb k 0 (h .n0), ne-eqb k 1 (h .n1), ne-eqb k 2 (h .n2), ne-eqb k 3 (h .n3), ne-eqb k 4 (h .n4), ne-eqb k 5 (h .n5), ne-eqb k 6 (h .n6), ne-eqb k 16 (h .n16), ne-eqb k 17 (h .n17), ne-eqb k 18 (h .n18), ne-eqb k 19 (h .n19), ne-eqb k 20 (h .n20), i, j)
 

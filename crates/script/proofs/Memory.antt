@@ -12,7 +12,7 @@ use lib.Seq.{take-length, take-all}
 use Rattle.wire.specs.Reads.{answer}
 use Rattle.icbmsg.specs.Outcome.{Outcome, withoutWrites}
 use Rattle.icbmsg.specs.Rings.{pullRule}
-use Rattle.icbmsg.specs.Calls.{rule, lent, step, pull}
+use Rattle.icbmsg.specs.Calls.{rule, lent, readFrom, step, pull}
 use Rattle.icbmsg.specs.End.{End}
 use Rattle.link.specs.Answers.{endOf}
 use Rattle.script.specs.Records.{numberAt}
@@ -37,7 +37,7 @@ first-least l n m e = rw e (go (leb n (length l)) refl)
 -- a pull into the first n bytes of the buffer
 pub pulled-as : (e : End) (rx buffer : List ℕ) (n m : ℕ) → m ≡ min n (length buffer) → {r : Ran} {o : Outcome} → RanAs r o →
     o ≡ withoutWrites (answer (pullRule e (length rx) (length (take m buffer))) rx) → RanAs r (step e (pull rx (take n buffer)))
-unfolding step rule lent
+unfolding step rule readFrom lent
 pulled-as e rx buffer n m h r k = rw (← (first-least buffer n m h)) (but-for-writes r k)
 
 -- ---- what a record does, by its kind

@@ -17,10 +17,10 @@ use Rattle.blocks.specs.Tables.{starts, startsData}
 use Rattle.blocks.specs.declared.Use.the-variants.{Reserved}
 use Rattle.icbmsg.specs.Outcome.{Outcome, check}
 use Rattle.icbmsg.specs.Ends.{whole}
-use Rattle.icbmsg.specs.Rings.{startOf, pushOf, pullRule}
-use Rattle.icbmsg.specs.Messages.{roomOf, viewOf, sendOf}
-use Rattle.icbmsg.specs.Registering.{registerOf}
-use Rattle.icbmsg.specs.Calls.{Call, start, push, pull, reserve, room, send, drop as dropCall, arrival, view, done, register, askRoom, askView, rule, lent, step}
+use Rattle.icbmsg.specs.Rings.{startOf, pushRule, pullRule}
+use Rattle.icbmsg.specs.Messages.{roomOf, viewOf, sendRule, doneRule}
+use Rattle.icbmsg.specs.Registering.{registerRule}
+use Rattle.icbmsg.specs.Calls.{Call, start, push, pull, reserve, room, send, drop as dropCall, arrival, view, done, register, askRoom, askView, rule, lent, readFrom, step}
 use Rattle.icbmsg.specs.End.{End}
 use Rattle.icbmsg.proofs.Writes.{writes-stay-inside}
 use Rattle.script.specs.Records.{numberAt}
@@ -109,20 +109,24 @@ module _ (e : End) where
   not-sent c h = none-inside _ (rw h at (writes-stay-inside e c .tx))
 
   pub start-writes : (tx : List ℕ) → (startOf e (length tx) .rx ≡ []) × (startOf e (length tx) .buffer ≡ [])
-  unfolding step rule lent
+  unfolding step rule readFrom lent
   start-writes tx = not-received (start tx) refl refl
 
-  pub push-writes : (tx b : List ℕ) → (pushOf e tx b .rx ≡ []) × (pushOf e tx b .buffer ≡ [])
-  unfolding step rule lent
+  pub push-writes : (tx b : List ℕ) → (answer (pushRule e (length tx) b) tx .rx ≡ []) × (answer (pushRule e (length tx) b) tx .buffer ≡ [])
+  unfolding step rule readFrom lent
   push-writes tx b = not-received (push tx b) refl refl
 
-  pub register-writes : (tx b : List ℕ) → (registerOf e (length tx) b .rx ≡ []) × (registerOf e (length tx) b .buffer ≡ [])
-  unfolding step rule lent
+  pub register-writes : (tx b : List ℕ) → (answer (registerRule e (length tx) b) tx .rx ≡ []) × (answer (registerRule e (length tx) b) tx .buffer ≡ [])
+  unfolding step rule readFrom lent
   register-writes tx b = not-received (register tx b) refl refl
 
-  pub send-writes : (tx : List ℕ) (s a k : ℕ) → (sendOf e (length tx) s a k .rx ≡ []) × (sendOf e (length tx) s a k .buffer ≡ [])
-  unfolding step rule lent
+  pub send-writes : (tx : List ℕ) (s a k : ℕ) → (answer (sendRule e (length tx) s a k) tx .rx ≡ []) × (answer (sendRule e (length tx) s a k) tx .buffer ≡ [])
+  unfolding step rule readFrom lent
   send-writes tx s a k = not-received (send tx s a k) refl refl
+
+  pub done-writes : (tx : List ℕ) (s : ℕ) → (answer (doneRule e (length tx) s) tx .rx ≡ []) × (answer (doneRule e (length tx) s) tx .buffer ≡ [])
+  unfolding step rule readFrom lent
+  done-writes tx s = not-received (done tx s) refl refl
 
   pub pull-writes : (rx buffer : List ℕ) → step e (pull rx buffer) .tx ≡ []
   unfolding lent
@@ -132,7 +136,7 @@ module _ (e : End) where
   pub pulled-bytes : (rx buffer : List ℕ) (n m : ℕ) → m ≡ min n (length buffer) → (rx′ part : List ℕ) →
       rx′ ≡ wrote rx (answer (pullRule e (length rx) (length (take m buffer))) rx .rx) → part ≡ wrote (take m buffer) (answer (pullRule e (length rx) (length (take m buffer))) rx .buffer) →
       (rx′ ≡ wrote rx (step e (pull rx (take n buffer)) .rx)) × (part ++ drop m buffer ≡ wrote buffer (step e (pull rx (take n buffer)) .buffer))
-  unfolding step rule lent
+  unfolding step rule readFrom lent
   pulled-bytes rx buffer n m h rx′ part k l =
       rw (← (first-least buffer n m h))
       (k, ap (λ (x : List ℕ). x ++ drop m buffer) l ∙ wrote-first buffer m _ (writes-stay-inside e (pull rx (take m buffer)) .buffer))
@@ -177,7 +181,7 @@ module _ (e : End) (tx rx : List ℕ) where
       (pick-call Lies (eqb k 2) _ _ (leaf (reserve (numberAt 4 b 0)) (omega arith) (omega arith))
       (pick-call Lies (eqb k 3) _ _ (leaf (send tx (numberAt 4 b 0) (numberAt 4 b 4) (numberAt 4 b 8)) (omega arith) (omega arith))
       (pick-call Lies (eqb k 4) _ _ (leaf (dropCall (numberAt 4 b 0)) (omega arith) (omega arith))
-      (pick-call Lies (eqb k 5) _ _ (leaf (done (numberAt 4 b 0)) (omega arith) (omega arith))
+      (pick-call Lies (eqb k 5) _ _ (leaf (done tx (numberAt 4 b 0)) (omega arith) (omega arith))
       (pick-call Lies (eqb k 6) _ _ (leaf (push tx b) (omega arith) (omega arith))
       (pick-call Lies (eqb k 16) _ _ (leaf (start tx) (omega arith) (omega arith))
       (pick-call Lies (eqb k 17) _ _ (leaf (pull rx (take (numberAt 2 b 0) buffer)) (omega arith) (omega arith))

@@ -24,7 +24,7 @@ callOf k b tx rx buffer =
     (pick (eqb k 2) (reserve (numberAt 4 b 0))
     (pick (eqb k 3) (send tx (numberAt 4 b 0) (numberAt 4 b 4) (numberAt 4 b 8))
     (pick (eqb k 4) (drop (numberAt 4 b 0))
-    (pick (eqb k 5) (done (numberAt 4 b 0))
+    (pick (eqb k 5) (done tx (numberAt 4 b 0))
     (pick (eqb k 6) (push tx b)
     (pick (eqb k 16) (start tx)
     (pick (eqb k 17) (pull rx (take (numberAt 2 b 0) buffer))

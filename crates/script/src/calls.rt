@@ -6,7 +6,7 @@ ghost use lib.ListN.{length, take};
 ghost use Rattle.wire.specs.Bytes.{wrote};
 ghost use Rattle.icbmsg.specs.Messages.{roomOf, viewOf};
 ghost use Rattle.icbmsg.specs.Calls.{step as stepRule, pull as pullCall};
-ghost use Rattle.link.specs.Answers.{answerNumber, answerGiven, endOf, answered, calledOf, ringCalledOf};
+ghost use Rattle.link.specs.Answers.{answerNumber, answerGiven, endOf, answered, pushedOf, calledOf, registeredOf, ringCalledOf};
 ghost use Rattle.script.specs.Rows.{reply};
 ghost use Rattle.script.specs.Records.{has};
 ghost use Rattle.script.specs.Calls.{IsCall, RanAs, Wrote, callOutcome, overwritten, Leaves, recordStep, stepOf};
@@ -16,6 +16,8 @@ use link::Answer;
 use link::Called;
 use link::End;
 use link::Place;
+use link::Pushed;
+use link::Registered;
 use link::RingCalled;
 use wire::read_u32;
 
@@ -46,12 +48,30 @@ fn of_answer(answer: Answer, end: End) -> Ran
     Ran { reply, end }
 }
 
-// Of an arrival or a registration on the end, which is left with the changes that are handed back.
+// Of an arrival on the end, which is left with the changes that are handed back.
 fn of_call(c: Called, end: End) -> Ran
     ensures { λ r. ⌜ RanAs r (calledOf c (end .numbers) (end .tables) (end .endpoints) (end .bindings)) ⌝ }
 {
     let answer = c.answer;
     of_answer(answer, c.applied(end))
+}
+
+// Of a registration, with the own write index too.
+fn of_registration(c: Registered, end: End) -> Ran
+    ensures { λ r. ⌜ RanAs r (registeredOf c (end .numbers) (end .tables) (end .endpoints) (end .bindings)) ⌝ }
+{
+    let called = c.called;
+    let answer = called.answer;
+    of_answer(answer, c.applied(end))
+}
+
+// Of a send or done, which leaves the end with its own write index.
+fn of_push(c: Pushed, mut end: End) -> Ran
+    ensures { λ r. ⌜ RanAs r (pushedOf c (end .numbers) (end .tables) (end .endpoints) (end .bindings)) ⌝ }
+{
+    let answer = c.answer;
+    end.numbers.write = c.write;
+    of_answer(answer, end)
 }
 
 // Of a ring call on the end, which is left with the numbers that are handed back.
@@ -122,16 +142,18 @@ fn call(mut end: End, kind: u8, body: &[u8], tx: &mut [u8], rx: &mut [u8], buffe
     let bs = end.bindings;
     match kind {
         kinds::ARRIVAL => of_call(End::arrival(n, ps, bs, &mut end.tables, rx, body), end),
-        kinds::REGISTER => of_call(End::register(n, ps, bs, &mut end.tables, tx, body), end),
+        kinds::REGISTER => {
+            of_registration(End::register(n, ps, bs, &mut end.tables, tx, body), end)
+        }
         kinds::RESERVE => of_answer(End::reserve(n, &mut end.tables, read_u32(body, 0)), end),
         kinds::SEND => {
             let start = read_u32(body, 0);
             let to = read_u32(body, 4);
             let k = read_u32(body, 8);
-            of_answer(End::send(n, ps, &mut end.tables, tx, start, to, k), end)
+            of_push(End::send(n, ps, &mut end.tables, tx, start, to, k), end)
         }
         kinds::DROP => of_answer(End::drop(n, &mut end.tables, read_u32(body, 0)), end),
-        kinds::DONE => of_answer(End::done(n, &mut end.tables, read_u32(body, 0)), end),
+        kinds::DONE => of_push(End::done(n, &mut end.tables, tx, read_u32(body, 0)), end),
         kinds::PUSH => of_ring_call(End::push(n, tx, body), end),
         kinds::START => of_ring_call(End::start(n, tx), end),
         kinds::PULL => pull(end, rx, buffer, wire::read_u16(body, 0)),

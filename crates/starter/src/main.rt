@@ -6,6 +6,7 @@ use lines::Line;
 use link::Answer;
 use link::End;
 use link::PacketAnswer;
+use link::Pushed;
 use link::RingCalled;
 use refusal::Refusal;
 
@@ -58,7 +59,8 @@ fn open(tx: Bounds, rx: Bounds, memory: &mut [u8]) -> Core {
     ring_called(end, b"start", End::start(end.numbers, memory))
 }
 
-// Registers an endpoint. It is bound once both cores have registered the name.
+// Registers an endpoint, and pushes its binding, or the answer to one that has come before. It is bound once both cores have registered the
+// name.
 fn register(core: Core, tx: &mut [u8], name: &[u8]) -> Core {
     if !core.going {
         return core;
@@ -66,13 +68,14 @@ fn register(core: Core, tx: &mut [u8], name: &[u8]) -> Core {
     let mut end = core.end;
     let endpoints = end.endpoints;
     let bindings = end.bindings;
-    let called = End::register(end.numbers, endpoints, bindings, &mut end.tables, tx, name);
+    let registered = End::register(end.numbers, endpoints, bindings, &mut end.tables, tx, name);
+    let called = registered.called;
     let answer = called.answer;
-    answered(called.applied(end), tx, b"register", answer)
+    answered(registered.applied(end), b"register", answer)
 }
 
-// Sends a text to the first endpoint: reserves blocks, fills their room, and pushes what announces the message. A text that is too long for
-// the region is refused.
+// Sends a text to the first endpoint: reserves blocks, fills their room, and sends, which pushes what announces the message. A text that is
+// too long for the region is refused.
 fn send(core: Core, tx: &mut [u8], text: &[u8]) -> Core {
     if !core.going {
         return core;
@@ -81,14 +84,14 @@ fn send(core: Core, tx: &mut [u8], text: &[u8]) -> Core {
     let k = wire::least(text.len(), 65535) as u32;
     let reserved = End::reserve(end.numbers, &mut end.tables, k);
     let Answer::Run { start, .. } = reserved else {
-        return answered(end, tx, b"reserve", reserved);
+        return answered(end, b"reserve", reserved);
     };
     fill(end, tx, start, text);
     let endpoints = end.endpoints;
     let first = endpoints[0];
     let to = first.address as u32;
     let sent = End::send(end.numbers, endpoints, &mut end.tables, tx, start, to, k);
-    answered(end, tx, b"send", sent)
+    pushed(end, b"send", sent)
 }
 
 fn fill(end: End, tx: &mut [u8], start: u32, text: &[u8]) {
@@ -148,34 +151,42 @@ fn arrive(mut end: End, tx: &mut [u8], rx: &[u8], packet: &[u8]) -> Core {
     let called = End::arrival(numbers, endpoints, bindings, &mut end.tables, rx, packet);
     let answer = called.answer;
     let end = called.applied(end);
-    if let Answer::Delivered { block, .. } = answer {
-        return read(end, tx, rx, block as u32);
-    }
-    answered(end, tx, b"arrival", answer)
-}
-
-// Reads a message where it lies. The other core gets its blocks back by what `done` answers, and not before.
-fn read(mut end: End, tx: &mut [u8], rx: &[u8], start: u32) -> Core {
-    let text = End::view(end.numbers, &end.tables, rx, start);
-    by(end).text(b"read \"").text(text).text(b"\"").print();
-    let released = End::done(end.numbers, &mut end.tables, start);
-    answered(end, tx, b"done", released)
-}
-
-// A control message that a call answers is for the other core: it is pushed. On a chip the doorbell is rung then.
-fn answered(end: End, tx: &mut [u8], call: &[u8], answer: Answer) -> Core {
     match answer {
-        Answer::Refused(x) => refused(end, by(end).text(call), x),
+        Answer::Delivered { block, .. } => read(end, tx, rx, block as u32),
         Answer::Control {
             kind,
             address,
             block,
-        } => {
-            let message = [kind, address, block];
-            ring_called(end, b"push", End::push(end.numbers, tx, &message))
-        }
+        } => reply(end, tx, [kind, address, block]),
+        _ => answered(end, b"arrival", answer),
+    }
+}
+
+// What an arriving binding answers is for the other core, and is pushed here. On a chip the doorbell is rung then.
+fn reply(end: End, tx: &mut [u8], message: [u8; 3]) -> Core {
+    ring_called(end, b"push", End::push(end.numbers, tx, &message))
+}
+
+// Reads a message where it lies. The other core gets its blocks back by what `done` pushes, and not before.
+fn read(mut end: End, tx: &mut [u8], rx: &[u8], start: u32) -> Core {
+    let text = End::view(end.numbers, &end.tables, rx, start);
+    by(end).text(b"read \"").text(text).text(b"\"").print();
+    let released = End::done(end.numbers, &mut end.tables, tx, start);
+    pushed(end, b"done", released)
+}
+
+fn answered(end: End, call: &[u8], answer: Answer) -> Core {
+    match answer {
+        Answer::Refused(x) => refused(end, by(end).text(call), x),
         _ => Core { end, going: true },
     }
+}
+
+// A call that pushes hands back the own write index. On a chip the doorbell is rung then.
+fn pushed(mut end: End, call: &[u8], pushed: Pushed) -> Core {
+    end.numbers.write = pushed.write;
+    let answer = pushed.answer;
+    answered(end, call, answer)
 }
 
 // A call on a ring hands back the numbers, with its own index moved on.

@@ -1,5 +1,5 @@
 -- What holds of every unit and every call, and of what a list of calls leaves.
-use Prim.Native.Nat.{ℕ, zero, suc, _≤_}
+use Prim.Native.Nat.{ℕ, zero, suc, _+_, _≤_}
 use mathlib.Core.Bool.{Bool, true, false, _&&_}
 use mathlib.Core.Path.{_≡_, refl, sym, ap, _∙_}
 use mathlib.Core.Logic.{_≢_}
@@ -11,9 +11,10 @@ use borrow.Author.Tests.{eq-eqb, ne-eqb}
 use Rattle.wire.specs.Choice.{pick, passed}
 use Rattle.wire.specs.Bytes.{Inside}
 use Rattle.wire.specs.Reads.{answer}
-use Rattle.icmsg.specs.Ring.{dataLength, readIndexAt, writeIndexAt, indexAt, inRule, isSound, used, startContent}
+use Rattle.icmsg.specs.Ring.{dataLength, readIndexAt, writeIndexAt, dataAt, indexAt, inRule, isSound, used, startContent}
 use Rattle.icmsg.specs.Rules.{Answer, refused, accepted, dropped, answerNumber, indexAfter, Outcome, refusal, dropping, pushNumber, pushed, zeroIndexes, startRule, pushRule, pullRule, receiveRule}
 use Rattle.icmsg.specs.Laws.{Sound, Plain, InRing, unlessShort}
+use Rattle.wire.proofs.Positions.{within-wider}
 use Rattle.icmsg.specs.declared.Ring.{Ring}
 use Rattle.icmsg.proofs.Checks.{sound-says, sound-test, sound-at, rule-of}
 use Rattle.icmsg.proofs.Pulls.{receive-6, receive-pulls}
@@ -112,8 +113,9 @@ writes-inside u (start tx) =
     (w .0, w .1, start-no-buffer (length tx) (txRing u)) (tt, tt, tt)
 writes-inside u (push tx c) =
     let w = ring-writes .push tx (txRing u) (u .write) c in
+    let end : ℕ = dataAt (txRing u) + dataLength (txRing u) in
     by-lent (λ o. InRing (txRing u) (o .region) × Inside (length tx) (o .region) × Inside 0 (o .buffer)) (length tx) (u .tx) (pushRule tx (txRing u) (u .write) c)
-    (w .0, w .1, push-no-buffer tx (txRing u) (u .write) c) (tt, tt, tt)
+    (within-wider (writeIndexAt (txRing u)) end (readIndexAt (txRing u)) end (pushRule tx (txRing u) (u .write) c .region) (omega arith) (omega arith) (w .0), w .1, push-no-buffer tx (txRing u) (u .write) c) (tt, tt, tt)
 writes-inside u (receive rx b) =
     let g : Ring = rxRing u in
     let w = ring-writes .pull-region (length rx) g (u .read) (length b) rx in

@@ -81,31 +81,8 @@ pub fn push(
     content: &[u8],
 ) -> Result<Moved, Refusal> {
     let mut ring = Ring::find(request, region)?;
-    let write = ring.in_rule(own_index).ok_or(Refusal::WrongRegion)?;
-    let length = refuse(content.len() > LONGEST_CONTENT, Refusal::TooLong);
-    let read = u32::from_le_bytes(*ring.read_index);
-    let read = ring.in_rule(read).ok_or(Refusal::BadIndex);
-    in_order(Fault::IndexBeforeLength, length, read.map(|_| ()))?;
-    let read = read?;
-    let packet = packet(content);
-    // Were all bytes used, the indexes would be equal, as in an empty ring.
-    let most = unless(Fault::FullAtLength, ring.data.len() - 1, ring.data.len());
-    let unpadded = PACKET_HEADER + content.len();
-    let counted = unless(Fault::PaddingUncounted, packet.len(), unpadded);
-    if counted + ring.distance(read, write) > most {
-        return Err(Refusal::Full);
-    }
-
-    let written = unless(Fault::PaddingLeft, packet.len(), unpadded);
-    for (place, byte) in ring.once_around(write).zip(&packet[..written]) {
-        *place = *byte;
-    }
-    let own_index = past(write, packet.len(), ring.data.len());
-    *ring.write_index = own_index.to_le_bytes();
-    Ok(Moved {
-        length: content.len() as u32,
-        own_index,
-    })
+    let write = ring.check_push(own_index, content.len())?;
+    Ok(ring.put(write, content))
 }
 
 /// Takes the packet at the reader's index off the ring. The buffer gets as
@@ -204,6 +181,51 @@ impl<'a> Ring<'a> {
                 .expect("the data begins behind the write index"),
             data: &mut rest[..data.len()],
         })
+    }
+
+    /// Where a packet with that much content goes, if it can be pushed now.
+    pub fn check_push(&self, own_index: u32, content_length: usize) -> Result<usize, Refusal> {
+        let write = self.in_rule(own_index).ok_or(Refusal::WrongRegion)?;
+        let length = refuse(content_length > LONGEST_CONTENT, Refusal::TooLong);
+        let read = u32::from_le_bytes(*self.read_index);
+        let read = self.in_rule(read).ok_or(Refusal::BadIndex);
+        in_order(Fault::IndexBeforeLength, length, read.map(|_| ()))?;
+        self.check_space(read?, write, content_length)?;
+        Ok(write)
+    }
+
+    /// Refuses a packet with that much content if it does not fit from the
+    /// writer's index on to the reader's.
+    pub fn check_space(
+        &self,
+        read: usize,
+        write: usize,
+        content_length: usize,
+    ) -> Result<(), Refusal> {
+        let length = self.data.len();
+        // Were all bytes used, the indexes would be equal, as in an empty ring.
+        let most = unless(Fault::FullAtLength, length - 1, length);
+        let unpadded = PACKET_HEADER + content_length;
+        let packet = packet_length(content_length);
+        let counted = unless(Fault::PaddingUncounted, packet, unpadded);
+        let used = self.distance(read, write);
+        refuse(counted + used > most, Refusal::Full)
+    }
+
+    /// Puts a packet at an index, and writes out the index behind it.
+    pub fn put(&mut self, write: usize, content: &[u8]) -> Moved {
+        let packet = packet(content);
+        let unpadded = PACKET_HEADER + content.len();
+        let written = unless(Fault::PaddingLeft, packet.len(), unpadded);
+        for (place, byte) in self.once_around(write).zip(&packet[..written]) {
+            *place = *byte;
+        }
+        let own_index = past(write, packet.len(), self.data.len());
+        *self.write_index = own_index.to_le_bytes();
+        Moved {
+            length: content.len() as u32,
+            own_index,
+        }
     }
 
     /// What is unread, from the reader's index on.

@@ -3,7 +3,7 @@
 use super::words::{self, counted};
 use crate::link::end::{Control, Opening};
 use crate::link::script::{
-    BodyLength, Ran, Row, Stop, OPENING_BYTES, RECORD_HEADER, ROW_BYTES, ROW_NAMES,
+    BodyLength, Ran, Record, Row, Stop, OPENING_BYTES, RECORD_HEADER, ROW_BYTES, ROW_NAMES,
 };
 
 /// The rows of one side, with its name.
@@ -13,35 +13,51 @@ pub type Side<'a> = (&'a str, &'a [Row]);
 /// differ are marked, and both are shown. At last, where it ends.
 pub fn script(script: &[u8], sides: [Side; 2], ran: &Ran) -> String {
     let mut text = String::new();
-    for (row, (at, line)) in lines(script).into_iter().enumerate() {
+    for (row, Line { at, record, words }) in lines(script).into_iter().enumerate() {
         let [(one_side, one), (other_side, other)] = sides;
         match [one.get(row), other.get(row)] {
             [Some(one), Some(other)] if one == other => {
-                text += &format!("  {row:>4}  byte {at:<5} {line}\n");
-                text += &format!("                    {}\n", row_line(one));
+                text += &format!("  {row:>4}  byte {at:<5} {words}\n");
+                text += &format!("                    {}\n", row_line(record, one));
             }
             [None, None] => {}
             [one, other] => {
-                text += &format!("* {row:>4}  byte {at:<5} {line}\n");
-                text += &both([(one_side, one), (other_side, other)]);
+                text += &format!("* {row:>4}  byte {at:<5} {words}\n");
+                text += &both(record, [(one_side, one), (other_side, other)]);
             }
         }
     }
     text + &end_line(ran) + "\n"
 }
 
-/// Where the opening and each record begin, and what they say.
-fn lines(script: &[u8]) -> Vec<(usize, String)> {
+/// The opening or a record.
+struct Line<'a> {
+    /// Where it begins.
+    at: usize,
+    /// None of the opening.
+    record: Option<Record<'a>>,
+    words: String,
+}
+
+fn lines(script: &[u8]) -> Vec<Line<'_>> {
     let Ok((opening, mut records)) = Opening::decode(script) else {
         return Vec::new();
     };
-    let mut lines = vec![(0, opening_line(&opening))];
+    let mut lines = vec![Line {
+        at: 0,
+        record: None,
+        words: opening_line(&opening),
+    }];
     loop {
         let at = records.at;
-        match records.next() {
-            Some(record) => lines.push((at, record.to_string())),
-            None => return lines,
-        }
+        let Some(record) = records.next() else {
+            return lines;
+        };
+        lines.push(Line {
+            at,
+            record: Some(record),
+            words: record.to_string(),
+        });
     }
 }
 
@@ -80,11 +96,12 @@ fn why(stop: Stop) -> String {
     }
 }
 
-/// Two rows that differ, each with its side, and the numbers in which they do.
-pub fn both(rows: [(&str, Option<&Row>); 2]) -> String {
+/// Two rows of a record that differ, each with its side, and the numbers in
+/// which they do.
+pub fn both(record: Option<Record>, rows: [(&str, Option<&Row>); 2]) -> String {
     let mut text = String::new();
     for (side, row) in rows {
-        let row = row.map_or("no row".to_string(), row_line);
+        let row = row.map_or("no row".to_string(), |row| row_line(record, row));
         text += &format!("  {side:<8}{row}\n");
     }
     if let [(one_side, Some(one)), (other_side, Some(other))] = rows {
@@ -97,7 +114,7 @@ pub fn both(rows: [(&str, Option<&Row>); 2]) -> String {
     text
 }
 
-fn row_line(row: &Row) -> String {
+fn row_line(record: Option<Record>, row: &Row) -> String {
     let [number, _, _, _, _, _, begin, size, free_transmit, free_receive, transmit, receive, buffer, _] =
         row.0;
     let place = match size {
@@ -108,12 +125,12 @@ fn row_line(row: &Row) -> String {
         "{}{}{place}; free blocks {free_transmit} and {free_receive}, \
          sums {transmit} {receive} {buffer}",
         words::outcome(number),
-        given(row)
+        given(record, row)
     )
 }
 
 /// What comes with the answer, by a row's last number.
-fn given(row: &Row) -> String {
+fn given(record: Option<Record>, row: &Row) -> String {
     let numbers = |from: &[u32]| format!("; values {from:?}");
     match (row.given(), row.values()) {
         (0, []) => String::new(),
@@ -126,7 +143,12 @@ fn given(row: &Row) -> String {
         (3, values @ [_, _, _]) => match control_bytes(values) {
             Some((bytes, control)) => {
                 let bytes = words::hex(&bytes, bytes.len());
-                format!("; to push {bytes} ({})", words::control(control))
+                // Other calls have pushed what they give.
+                let what = match record {
+                    Some(Record::Arrival(_)) => "to push",
+                    _ => "pushed",
+                };
+                format!("; {what} {bytes} ({})", words::control(control))
             }
             None => numbers(values),
         },

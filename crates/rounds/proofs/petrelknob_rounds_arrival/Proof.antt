@@ -1,4 +1,7 @@
 use Prim.Native.Nat.{_-_, _≤_, _<_}
+use mathlib.Core.Path.{_≡_}
+use native.Mathlib.Omega.{arith}
+use lib.ListN.{length}
 use borrow.Author.Needs.{needs}
 use Rattle.rounds.proofs.petrelknob_rounds_arrival.Statement.{statement}
 use Rattle.rounds.proofs.petrelknob_rounds_arrival.Tie as tie
@@ -7,12 +10,13 @@ use Rattle.link.proofs.End.done.Reads as done-reads
 use Rattle.rounds.proofs.added.Reads as added-reads
 use Rattle.rounds.proofs.bound.Reads as bound-reads
 use Rattle.rounds.proofs.opened.Reads as opened-reads
+use Rattle.rounds.proofs.take_off.Reads as take-off-reads
 
 abbrev Inv-loop : tie.InvT-loop
-Inv-loop opening tx rx rounds end₀ message sum₀ i₀ end sum i = (i ≤ rounds) × (rounds < 4294967296)
+Inv-loop opening tx₀ rx rounds end₀ message sum₀ i₀ tx end sum i = (i ≤ rounds) × (rounds < 4294967296) × (length tx ≡ length tx₀)
 
 abbrev μ-loop : tie.MeasureT-loop
-μ-loop opening tx rx rounds end₀ message sum₀ i₀ end sum i = rounds - i
+μ-loop opening tx₀ rx rounds end₀ message sum₀ i₀ tx end sum i = rounds - i
 
 opened-requires : tie.Need-opened-requires Inv-loop μ-loop
 opened-requires c κs = search needs
@@ -44,6 +48,9 @@ enum-told c = search needs
 done-requires : tie.Need-done-requires Inv-loop μ-loop
 done-requires c κs = search needs
 
+take-off-requires : tie.Need-take-off-requires Inv-loop μ-loop
+take-off-requires c κs = search needs
+
 added-requires : tie.Need-added-requires Inv-loop μ-loop
 added-requires c κs = search needs
 
@@ -51,13 +58,13 @@ added-requires-2 : tie.Need-added-requires-2 Inv-loop μ-loop
 added-requires-2 c κs = search needs
 
 add-i : tie.Need-add-i Inv-loop μ-loop
-add-i c = search needs
+add-i c = let l = c .before .before .before .before .before .before .before .before .before .before .before .before .before .before .before .before .before .before .before .before .before .before in omega (arith, l .loop-test .taken, l .before .loop .inv .1)
 
 loop-less : tie.Need-loop-less Inv-loop μ-loop
-loop-less c = search needs
+loop-less c = let l = c .before .before .before .before .before .before .before .before .before .before .before .before .before .before .before .before .before .before .before .before .before .before in omega (arith, l .loop-test .taken, l .before .loop .inv .1)
 
 loop-again : tie.Need-loop-again Inv-loop μ-loop
-loop-again c = search needs
+loop-again c = let l = c .before .before .before .before .before .before .before .before .before .before .before .before .before .before .before .before .before .before .before .before .before .before in (omega (arith, l .loop-test .taken, l .before .loop .inv .1), l .before .loop .inv .1, search needs)
 
 same-length : tie.Need-same-length Inv-loop μ-loop
 same-length c = search needs
@@ -81,6 +88,7 @@ petrelknob-rounds-arrival-spec =
     element-set-from-endpoint
     enum-told
     done-requires
+    take-off-requires
     added-requires
     added-requires-2
     add-i

@@ -12,6 +12,7 @@ use Rattle.rounds.proofs.added.Reads as added-reads
 use Rattle.rounds.proofs.bound.Reads as bound-reads
 use Rattle.rounds.proofs.opened.Reads as opened-reads
 use Rattle.rounds.proofs.start_of.Reads as start-of-reads
+use Rattle.rounds.proofs.take_off.Reads as take-off-reads
 
 abbrev Inv-loop : tie.InvT-loop
 Inv-loop opening tx₀ rx k rounds end₀ message sum₀ i₀ tx end sum i = (i ≤ rounds) × (rounds < 4294967296) × (length tx ≡ length tx₀)
@@ -36,6 +37,9 @@ start-of-requires c κs = search needs
 
 send-requires : tie.Need-send-requires Inv-loop μ-loop
 send-requires c κs = search needs
+
+take-off-requires : tie.Need-take-off-requires Inv-loop μ-loop
+take-off-requires c κs = search needs
 
 slice-aggregate-arrival : tie.Need-slice-aggregate-arrival Inv-loop μ-loop
 slice-aggregate-arrival c = search needs
@@ -65,13 +69,13 @@ added-requires-3 : tie.Need-added-requires-3 Inv-loop μ-loop
 added-requires-3 c κs = search needs
 
 add-i : tie.Need-add-i Inv-loop μ-loop
-add-i c = let l = c .before .before .before .before .before .before .before .before .before .before .before .before .before .before .before .before .before .before .before .before .before .before .before .loop in omega (arith, c .before .before .before .before .before .before .before .before .before .before .before .before .before .before .before .before .before .before .before .before .before .before .loop-test .taken, l .inv .1)
+add-i c = let l = c .before .before .before .before .before .before .before .before .before .before .before .before .before .before .before .before .before .before .before .before .before .before .before .before .before .before .before .before in omega (arith, l .loop-test .taken, l .before .loop .inv .1)
 
 loop-less : tie.Need-loop-less Inv-loop μ-loop
-loop-less c = let l = c .before .before .before .before .before .before .before .before .before .before .before .before .before .before .before .before .before .before .before .before .before .before .before .loop in omega (arith, c .before .before .before .before .before .before .before .before .before .before .before .before .before .before .before .before .before .before .before .before .before .before .loop-test .taken, l .inv .1)
+loop-less c = let l = c .before .before .before .before .before .before .before .before .before .before .before .before .before .before .before .before .before .before .before .before .before .before .before .before .before .before .before .before in omega (arith, l .loop-test .taken, l .before .loop .inv .1)
 
 loop-again : tie.Need-loop-again Inv-loop μ-loop
-loop-again c = let l = c .before .before .before .before .before .before .before .before .before .before .before .before .before .before .before .before .before .before .before .before .before .before .before .loop in (omega (arith, c .before .before .before .before .before .before .before .before .before .before .before .before .before .before .before .before .before .before .before .before .before .before .loop-test .taken, l .inv .1), l .inv .1, search needs)
+loop-again c = let t = c .before .before .before .before .before .before .before .before .before .before .before .before .before in let s = t .before .before .before .before .before .before in let l = s .before .before .before .before .before .before .before .before .before in (omega (arith, l .loop-test .taken, l .before .loop .inv .1), l .before .loop .inv .1, search (needs, t .take-off .kept, s .send .kept, l .before .loop .inv .2))
 
 same-length : tie.Need-same-length Inv-loop μ-loop
 same-length c = search needs
@@ -91,6 +95,7 @@ petrelknob-rounds-send-spec =
     reserve-requires
     start-of-requires
     send-requires
+    take-off-requires
     slice-aggregate-arrival
     arrival-requires
     enum-known-place

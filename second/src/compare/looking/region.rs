@@ -135,26 +135,24 @@ fn messages(group: &mut Group) {
     let mut writer = Writer::started();
     writer.register(b"example");
     writer.register(b"pump");
-    writer.push(&[2, 0, 0]);
-    writer.push(&[2, 1, 1]);
     writer.call(|open, _| open.arrival(&[0; 2048], &[3, 1, 1]).map(drop));
     writer.send(1, 1, b"calibration 7.31");
     writer.send(1, 2, &[0xAA; 200]);
-    writer.push(&[0, 1, 2]);
     writer.push(&[1, 0, 31]);
     writer.push(&[3, 4, 0, 9]);
     writer.says(
         group,
         "bindings and data",
         &[
-            "ring 60 bytes unread: 6 packets; contents of up to 408 bytes fit",
+            "ring 68 bytes unread: 7 packets; contents of up to 400 bytes fit",
             "[R=====W.........................................] \
              R read, W write, X both, = unread; a cell is 10 bytes",
             "at 0 13 bytes 45 6d 31 6c .. start packet",
             "at 20 3 bytes 02 00 00 bound, address 0, block 0: \"example\" K 8",
-            "at 36 3 bytes 00 01 02 data, address 1, block 2: K 200",
-            "at 44 3 bytes 01 00 1f release data, address 0, block 31",
-            "at 52 4 bytes 03 04 00 09 release bound, address 4, block 0",
+            "at 36 3 bytes 00 01 01 data, address 1, block 1: K 16",
+            "at 44 3 bytes 00 01 02 data, address 1, block 2: K 200",
+            "at 52 3 bytes 01 00 1f release data, address 0, block 31",
+            "at 60 4 bytes 03 04 00 09 release bound, address 4, block 0",
             "0 0x20070200 K 8 block 0 \"example\\x00\"",
             "2 0x200702c0 K 200 blocks 2 to 4 aa aa aa aa aa aa aa aa aa aa aa aa aa aa aa aa ..",
             "3-4 goes on from block 2",
@@ -167,7 +165,7 @@ fn messages(group: &mut Group) {
         "a binding that was written over",
         &[
             "at 28 3 bytes 02 01 01 bound, address 1, block 1",
-            "[BoDdd...........]",
+            "[BDDdd...........]",
             "1 0x20070260 K 16 block 1 \"calibration 7.31\"",
             "odd 1 thing",
             "packet at 28: its arrival is refused with 20: the name is empty, too long, has a zero \

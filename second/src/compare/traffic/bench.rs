@@ -48,6 +48,15 @@ const fn receive(offset: u32, bytes: &'static [u8]) -> Record<'static> {
     }
 }
 
+/// The partner's index on the transmit ring of a tiny region.
+const fn partner_at(index: &'static [u8]) -> Record<'static> {
+    Record::Write {
+        slice: Slice::Transmit,
+        offset: 0,
+        bytes: index,
+    }
+}
+
 const fn run(start: u32, count: u32) -> Given {
     Given::Run { start, count }
 }
@@ -56,10 +65,22 @@ const RESERVE: Record = Record::Reserve { k: 0 };
 
 /// A byte on address 0.
 const fn send(start: u32) -> Record<'static> {
-    Record::Send {
-        start,
-        address: 0,
-        k: 1,
+    send_to(start, 0, 1)
+}
+
+const fn send_to(start: u32, address: u32, k: u32) -> Record<'static> {
+    Record::Send { start, address, k }
+}
+
+/// Regions with 48 data bytes, which five control messages fill, and two blocks
+/// of 16 bytes.
+const TWO_BLOCKS: Opening = tiny([88, 2], [88, 2]);
+
+/// The first so many bytes of such a transmit region.
+const fn lend_transmit(transmit: u32) -> Record<'static> {
+    Record::Lend {
+        transmit,
+        receive: 88,
     }
 }
 
@@ -67,7 +88,7 @@ const fn delivery(address: u8, start: u32, k: u32) -> Given {
     Given::Delivery { address, start, k }
 }
 
-const BENCHES: [Bench; 9] = [
+const BENCHES: [Bench; 11] = [
     Bench {
         name: "blocks that a message takes",
         opening: Opening::EXAMPLE,
@@ -165,6 +186,81 @@ const BENCHES: [Bench; 9] = [
             (CONTROL, 10, Given::Length(0)),
         ],
         afterwards: (Slice::Transmit, 4, &[56, 0, 0, 0]),
+    },
+    Bench {
+        name: "48 data bytes, an initiator on a full ring",
+        opening: TWO_BLOCKS.swapped(),
+        opened: 0,
+        steps: &[
+            (Record::Register(b"pump"), 0, Given::Control([2, 0, 0])),
+            (Record::Arrival(&[3, 0, 0]), 0, Given::Nothing),
+            (Record::Reserve { k: 28 }, 0, run(0, 2)),
+            (CONTROL, 0, Given::Length(3)),
+            (CONTROL, 0, Given::Length(3)),
+            (CONTROL, 0, Given::Length(3)),
+            (CONTROL, 0, Given::Length(3)),
+            (CONTROL, 10, Given::Length(0)),
+            (send(0), 10, Given::Nothing),
+            // What comes before the ring.
+            (send(1), 25, Given::Nothing),
+            (send_to(0, 1, 1), 15, Given::Nothing),
+            (send_to(0, 0, 29), 23, Given::Nothing),
+            (Record::Register(b"valve"), 24, Given::Nothing),
+            (partner_at(&[1]), 0, Given::Nothing),
+            (send(0), 7, Given::Nothing),
+            // A packet has been pulled, then another.
+            (partner_at(&[8]), 0, Given::Nothing),
+            (send(0), 0, Given::Control([0, 0, 0])),
+            (Record::Register(b"valve"), 10, Given::Nothing),
+            (partner_at(&[16]), 0, Given::Nothing),
+            (Record::Register(b"valve"), 0, Given::Control([2, 1, 1])),
+            (RESERVE, 24, Given::Nothing),
+        ],
+        // Both indexes, and the last packet.
+        afterwards: (
+            Slice::Transmit,
+            0,
+            &[16, 0, 0, 0, 8, 0, 0, 0, 0, 3, 0, 0, 2, 1, 1, 0],
+        ),
+    },
+    Bench {
+        name: "48 data bytes, a follower on a full ring",
+        opening: TWO_BLOCKS,
+        opened: 0,
+        steps: &[
+            (CONTROL, 0, Given::Length(3)),
+            (CONTROL, 0, Given::Length(3)),
+            (CONTROL, 0, Given::Length(3)),
+            (CONTROL, 0, Given::Length(3)),
+            (CONTROL, 0, Given::Length(3)),
+            // It waits, and has nothing to push; nor has it for a binding yet.
+            (Record::Register(b"pump"), 0, Given::Nothing),
+            (receive(56, b"\x05\0\0\0pump\0"), 0, Given::Nothing),
+            (Record::Arrival(&[2, 0, 0]), 0, Given::Control([3, 0, 0])),
+            (Record::Arrival(&[0, 0, 0]), 0, delivery(0, 0, 5)),
+            (receive(72, b"\x05\0\0\0lamp\0"), 0, Given::Nothing),
+            (Record::Arrival(&[2, 1, 1]), 0, Given::Nothing),
+            (Record::Done { start: 0 }, 10, Given::Nothing),
+            (Record::Done { start: 1 }, 25, Given::Nothing),
+            (Record::Register(b"lamp"), 10, Given::Nothing),
+            (partner_at(&[48]), 0, Given::Nothing),
+            (Record::Done { start: 0 }, 7, Given::Nothing),
+            (Record::Register(b"lamp"), 7, Given::Nothing),
+            (Record::Register(b"horn"), 0, Given::Nothing),
+            (lend_transmit(87), 0, Given::Nothing),
+            (Record::Done { start: 0 }, 6, Given::Nothing),
+            (lend_transmit(88), 0, Given::Nothing),
+            (partner_at(&[8]), 0, Given::Nothing),
+            (Record::Done { start: 0 }, 0, Given::Control([1, 0, 0])),
+            (Record::Register(b"lamp"), 10, Given::Nothing),
+            (partner_at(&[16]), 0, Given::Nothing),
+            (Record::Register(b"lamp"), 0, Given::Control([3, 1, 1])),
+        ],
+        afterwards: (
+            Slice::Transmit,
+            0,
+            &[16, 0, 0, 0, 8, 0, 0, 0, 0, 3, 0, 0, 3, 1, 1, 0],
+        ),
     },
     Bench {
         name: "64 data bytes, broken packets",

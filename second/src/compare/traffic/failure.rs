@@ -85,16 +85,21 @@ pub fn describe_newer(label: &str, base: &Case, opponent: Opponent) -> String {
     let base_rows = opponent_rows(&short, opponent);
     let newer_rows = opponent_rows(&newer.case, opponent);
     let newer_at = newer.row_of(at);
+    // The first row is the opening's.
+    let record = at.checked_sub(1).and_then(|at| short.records().nth(at));
     format!(
         "{label}: changes of a newer partner matter\n  {}\n  {}\n  \
          base row {at} and newer row {newer_at} differ (sums in how they change)\n{}\
          base:\n{}newer:\n{}",
         kept(label, "-base", &short),
         kept(label, "-newer", &newer.case),
-        both([
-            ("base", base_rows.get(at)),
-            ("newer", newer_rows.get(newer_at)),
-        ]),
+        both(
+            record,
+            [
+                ("base", base_rows.get(at)),
+                ("newer", newer_rows.get(newer_at)),
+            ],
+        ),
         short.show(&short.run(opponent), opponent),
         newer.case.show(&newer.case.run(opponent), opponent),
     )

@@ -11,6 +11,7 @@ mod newer;
 mod openings;
 mod outcomes;
 mod planted;
+mod refused_pushes;
 mod session;
 mod shrink;
 mod soak;
@@ -63,10 +64,10 @@ struct Kind {
     make: fn(&mut Random) -> Batch,
 }
 
-const KINDS: [Kind; 5] = [
+const KINDS: [Kind; 6] = [
     Kind {
         name: "honest",
-        share: 35,
+        share: 32,
         make: |random| {
             let Honest {
                 cases,
@@ -82,12 +83,17 @@ const KINDS: [Kind; 5] = [
     },
     Kind {
         name: "hostile partner",
-        share: 30,
+        share: 26,
         make: |random| Batch::of([lone::hostile(random)]),
     },
     Kind {
+        name: "full rings",
+        share: 10,
+        make: |random| Batch::of([lone::full_ring(random)]),
+    },
+    Kind {
         name: "nonsense arguments",
-        share: 15,
+        share: 14,
         make: |random| Batch::of([lone::nonsense(random)]),
     },
     Kind {
@@ -97,18 +103,19 @@ const KINDS: [Kind; 5] = [
     },
     Kind {
         name: "newer partner",
-        share: 16,
+        share: 14,
         make: newer_partner,
     },
 ];
 
 fn newer_partner(random: &mut Random) -> Batch {
-    let base = match random.below(4) {
+    let base = match random.below(5) {
         0 => {
             let [case, _] = honest::honest(random).cases;
             case
         }
         1 => lone::nonsense(random),
+        2 => lone::full_ring(random),
         _ => lone::hostile(random),
     };
     let newer = newer::newer(random, &base);
@@ -217,8 +224,8 @@ fn compare(
     for case in batch.scripts() {
         let made = case.run(opponent);
         let mut rows = made.second_rows();
-        if let Some(row) = rows.next() {
-            outcomes.count_opening(&row);
+        if let (Some(opening), Some(row)) = (case.opening(), rows.next()) {
+            outcomes.count_opening(&opening, &row);
         }
         for (record, row) in case.records().zip(rows) {
             if outcomes.count(&record, &row) {

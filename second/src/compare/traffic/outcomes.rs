@@ -4,10 +4,11 @@ use std::array::from_fn;
 use std::collections::BTreeMap;
 
 use super::honest::Overtaken;
+use super::refused_pushes::RefusedPushes;
 use super::stages::Stages;
 use crate::compare::report::Group;
 use crate::compare::tally::{check_least, Tally};
-use crate::link::end::ControlKind;
+use crate::link::end::{ControlKind, Opening};
 use crate::link::refusal::outcome_name;
 use crate::link::script::{Record, Row};
 
@@ -33,11 +34,19 @@ const fn control(kind: ControlKind) -> With {
 /// A pull whose last one before was refused by 9; it is counted as a pull, too.
 const AFTER_DROP: &str = "pull, next after a 9";
 
-/// The calls of a script, arrivals by their kind, with all that each can give
-/// and the outcomes with which it gives that. Push can also be refused by 11,
-/// which is for contents of over 65,535 bytes: no script can hold one, and
-/// the ring comparison has it.
-const OUTCOMES: [(&str, With, &[u32]); 44] = [
+/// What a script's end is.
+#[derive(Clone, Copy, PartialEq, Eq)]
+pub enum Role {
+    Closed,
+    Initiator,
+    Follower,
+}
+
+/// The calls of a script, arrivals by their kind and register by the role, with
+/// all that each can give and the outcomes with which it gives that. Push can
+/// also be refused by 11, which is for contents of over 65,535 bytes: no script
+/// can hold one, and the ring comparison has it.
+const OUTCOMES: [(&str, With, &[u32]); 57] = [
     ("opening", With::Nothing, &[0, 1, 2, 3, 4, 5]),
     ("arrival, empty", With::Nothing, &[6, 12]),
     ("arrival, unknown kind", With::Nothing, &[6, 13]),
@@ -56,17 +65,31 @@ const OUTCOMES: [(&str, With, &[u32]); 44] = [
         With::Nothing,
         &[0, 6, 12, 14, 16, 25],
     ),
-    // Of an initiator; of a follower that finds its binding, or waits.
-    ("register", control(ControlKind::Bound), &[0]),
-    ("register", control(ControlKind::ReleaseBound), &[0]),
-    ("register", With::Nothing, &[0, 6, 20, 21, 22, 23, 24]),
+    ("register, closed end", With::Nothing, &[6]),
+    ("register, initiator", control(ControlKind::Bound), &[0]),
+    (
+        "register, initiator",
+        With::Nothing,
+        &[6, 7, 10, 20, 21, 22, 23, 24],
+    ),
+    // It finds a stored binding, and looks at the ring; or it waits.
+    (
+        "register, follower",
+        control(ControlKind::ReleaseBound),
+        &[0],
+    ),
+    (
+        "register, follower",
+        With::Nothing,
+        &[0, 6, 7, 10, 20, 21, 22],
+    ),
     ("reserve", With::Run, &[0]),
     ("reserve", With::Nothing, &[6, 23, 24]),
     ("send", control(ControlKind::Data), &[0]),
-    ("send", With::Nothing, &[6, 15, 23, 25]),
+    ("send", With::Nothing, &[6, 7, 10, 15, 23, 25]),
     ("drop", With::Nothing, &[0, 6, 25]),
     ("done", control(ControlKind::ReleaseData), &[0]),
-    ("done", With::Nothing, &[6, 25]),
+    ("done", With::Nothing, &[6, 7, 10, 25]),
     ("push", With::Length, &[0, 6, 7, 10]),
     ("start", With::Length, &[0, 6]),
     ("pull", With::Length, &[0, 6, 7, 8]),
@@ -92,11 +115,27 @@ const OUTCOMES: [(&str, With, &[u32]); 44] = [
     ("send, waiting", With::Nothing, &[15, 25]),
     ("send, refused before", With::Nothing, &[15, 25]),
     ("send, bound by data", control(ControlKind::Data), &[0]),
-    ("send, bound by data", With::Nothing, &[23, 25]),
+    ("send, bound by data", With::Nothing, &[7, 10, 23, 25]),
+    // Calls that push, where the ring has refused before, counted once more.
+    ("send, 10 before", control(ControlKind::Data), &[0]),
+    ("send, 10 before", With::Nothing, &[7, 10, 15, 23]),
+    ("done, 10 before", control(ControlKind::ReleaseData), &[0]),
+    ("done, 10 before", With::Nothing, &[7, 10]),
+    ("initiator, 10 before", control(ControlKind::Bound), &[0]),
+    ("initiator, 10 before", With::Nothing, &[7, 10, 24]),
+    (
+        "follower, 10 before",
+        control(ControlKind::ReleaseBound),
+        &[0],
+    ),
+    ("follower, 10 before", With::Nothing, &[7, 10]),
+    ("waits on a full ring", With::Nothing, &[0]),
+    ("waits on a bad index", With::Nothing, &[0]),
+    ("done, wrong slice", With::Nothing, &[6]),
 ];
 
 /// What the list calls a record; none if it is no call.
-fn call_of(record: &Record) -> Option<&'static str> {
+fn call_of(record: &Record, role: Role) -> Option<&'static str> {
     Some(match record {
         Record::Arrival([]) => "arrival, empty",
         Record::Arrival([first, ..]) => match ControlKind::of(*first) {
@@ -106,7 +145,11 @@ fn call_of(record: &Record) -> Option<&'static str> {
             Some(ControlKind::ReleaseBound) => "arrival, release bound",
             None => "arrival, unknown kind",
         },
-        Record::Register(_) => "register",
+        Record::Register(_) => match role {
+            Role::Closed => "register, closed end",
+            Role::Initiator => "register, initiator",
+            Role::Follower => "register, follower",
+        },
         Record::Reserve { .. } => "reserve",
         Record::Send { .. } => "send",
         Record::Drop { .. } => "drop",
@@ -153,10 +196,12 @@ pub struct Outcomes {
     tallies: [Tally; OUTCOMES.len()],
     /// Calls that gave what they never give, in words.
     others: BTreeMap<String, u64>,
+    role: Role,
     /// The last pull of the script was refused by 9.
     after_drop: bool,
     /// The endpoints of the script's end.
     stages: Stages,
+    refused_pushes: RefusedPushes,
     /// Of honest ends.
     overtaken: Overtaken,
 }
@@ -166,16 +211,24 @@ impl Outcomes {
         Outcomes {
             tallies: from_fn(|_| Tally::default()),
             others: BTreeMap::new(),
+            role: Role::Closed,
             after_drop: false,
             stages: Stages::default(),
+            refused_pushes: RefusedPushes::default(),
             overtaken: Overtaken::default(),
         }
     }
 
     /// A script begins.
-    pub fn count_opening(&mut self, row: &Row) {
+    pub fn count_opening(&mut self, opening: &Opening, row: &Row) {
+        self.role = match row.number() {
+            0 if opening.receive_begin < opening.transmit_begin => Role::Initiator,
+            0 => Role::Follower,
+            _ => Role::Closed,
+        };
         self.after_drop = false;
         self.stages = Stages::default();
+        self.refused_pushes = RefusedPushes::default();
         self.count_call("opening", row);
     }
 
@@ -188,7 +241,7 @@ impl Outcomes {
 
     /// True if the record is a call.
     pub fn count(&mut self, record: &Record, row: &Row) -> bool {
-        let call = call_of(record);
+        let call = call_of(record, self.role);
         if let Some(call) = call {
             self.count_call(call, row);
         }
@@ -202,6 +255,10 @@ impl Outcomes {
             self.count_call(call, row);
         }
         self.stages.follow(record, row);
+        if let Some(call) = self.refused_pushes.call(self.role, record, row) {
+            self.count_call(call, row);
+        }
+        self.refused_pushes.follow(record, row);
         call.is_some()
     }
 

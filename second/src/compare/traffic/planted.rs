@@ -23,7 +23,7 @@ const NEWER_FAULTS: [Fault; 8] = [
 ];
 
 /// Faults that two ends with them notice without a comparison.
-const HONEST_FAULTS: [Fault; 11] = [
+const HONEST_FAULTS: [Fault; 26] = [
     Fault::EmptyIsBroken,
     Fault::EarlyDataRefused,
     Fault::EarlyDataSwallowed,
@@ -35,6 +35,21 @@ const HONEST_FAULTS: [Fault; 11] = [
     Fault::BoundHolds,
     Fault::CountInByte,
     Fault::ViewFromHeader,
+    Fault::FullSends,
+    Fault::FullRegisters,
+    Fault::FullHoldsBinding,
+    Fault::FullForgetsStored,
+    Fault::FullForgets,
+    Fault::FullUnseen,
+    Fault::SendUnpushed,
+    Fault::BindingUnpushed,
+    Fault::TakingUnpushed,
+    Fault::DoneUnpushed,
+    Fault::ToldTwice,
+    Fault::ToldKeepsOwnIndex,
+    Fault::ToldUnwritten,
+    Fault::WaitingPushes,
+    Fault::ReplyPushed,
 ];
 
 pub fn run(settings: &Settings, report: &mut Report) {

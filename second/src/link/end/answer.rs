@@ -2,7 +2,7 @@
 
 use std::ops::Range;
 
-use super::control::ControlKind;
+use super::control::CONTROL;
 use crate::link::refusal::Refusal;
 
 /// What a call answers beside its number.
@@ -34,19 +34,14 @@ pub enum Given {
     Dropped(u32),
     /// The blocks of a reservation.
     Run { start: u32, count: u32 },
-    /// Three bytes to be pushed.
-    Control([u8; 3]),
+    /// A control message: pushed already, but for the reply to a binding that
+    /// arrives.
+    Control([u8; CONTROL]),
     /// A data message that has arrived.
     Delivery { address: u8, start: u32, k: u32 },
 }
 
 impl Given {
-    /// The bytes that tell the partner of a message. A start is one of at most
-    /// 256 blocks, so it fits a byte.
-    pub fn control(kind: ControlKind, address: u8, start: u32) -> Self {
-        Given::Control([kind as u8, address, start as u8])
-    }
-
     pub fn values(&self) -> Vec<u32> {
         match *self {
             Given::Nothing => Vec::new(),

@@ -99,8 +99,8 @@ impl Open {
             if planted(Fault::BoundHolds) {
                 self.incoming.hold(start, count, Incoming::Data { k });
             }
-            let given = Given::control(ControlKind::ReleaseBound, address, start);
-            return Ok(Answer::giving(given));
+            let reply = Control::new(ControlKind::ReleaseBound, address, start);
+            return Ok(Answer::giving(Given::Control(reply.bytes())));
         }
         self.incoming
             .hold(start, count, Incoming::Stored { name, address });

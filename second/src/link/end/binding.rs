@@ -1,10 +1,9 @@
 //! Endpoints: their names, and how both ends agree on their addresses.
 
-use super::answer::{Answer, Given, Slice, Written};
-use super::control::{Control, ControlKind};
+use super::control::Control;
 use super::messages::{Incoming, Outgoing};
 use super::Open;
-use crate::link::fault::{in_order, planted, unless, Fault};
+use crate::link::fault::{planted, unless, Fault};
 use crate::link::refusal::{refuse, Refusal};
 
 /// The most endpoints, and the most stored bindings beside them.
@@ -19,7 +18,7 @@ pub struct Name(Vec<u8>);
 
 impl Name {
     /// A name that is handed over.
-    fn registered(bytes: &[u8]) -> Result<Self, Refusal> {
+    pub fn registered(bytes: &[u8]) -> Result<Self, Refusal> {
         let longest = unless(Fault::LongNameAccepted, LONGEST_NAME, LONGEST_NAME + 1);
         let good_length = (1..=longest).contains(&bytes.len());
         let no_zero = !bytes.contains(&0) || planted(Fault::ZeroInNameAccepted);
@@ -50,7 +49,7 @@ impl Name {
     }
 
     /// The content of a binding message.
-    fn zero_ended(&self) -> Vec<u8> {
+    pub fn zero_ended(&self) -> Vec<u8> {
         [&self.0[..], &[0]].concat()
     }
 
@@ -79,87 +78,6 @@ impl Endpoint {
 }
 
 impl Open {
-    pub fn register(&mut self, transmit: &mut [u8], name: &[u8]) -> Result<Answer, Refusal> {
-        self.transmit.check_whole(transmit.len())?;
-        let name = Name::registered(name)?;
-        let owns = |endpoint: &Endpoint| {
-            endpoint.name == name && (endpoint.bound || !planted(Fault::WaitingNameFree))
-        };
-        let taken = refuse(self.endpoints.iter().any(owns), Refusal::NameTaken);
-        let most = unless(Fault::NinthEndpoint, MOST_ENDPOINTS, MOST_ENDPOINTS + 1);
-        let full = refuse(self.endpoints.len() >= most, Refusal::NoPlace);
-        in_order(Fault::PlaceBeforeName, taken, full)?;
-        if self.initiator {
-            self.send_binding(transmit, name)
-        } else {
-            Ok(self.await_binding(name))
-        }
-    }
-
-    /// Names the endpoint to the partner, which confirms it later.
-    fn send_binding(&mut self, transmit: &mut [u8], name: Name) -> Result<Answer, Refusal> {
-        let address = self.unused_address();
-        let content = name.zero_ended();
-        let k = content.len() as u32;
-        let [start, count] = self.free_run(k)?;
-
-        self.transmit.write_k(transmit, start, k);
-        let header = self.transmit.header(start);
-        let place = self.transmit.content(start, content.len());
-        transmit[place.clone()].copy_from_slice(&content);
-        self.outgoing
-            .hold(start, count, Outgoing::Binding { address });
-        self.endpoints.push(Endpoint {
-            name,
-            address: Some(address),
-            bound: false,
-        });
-        Ok(Answer {
-            given: Given::control(ControlKind::Bound, address, start),
-            written: vec![Written {
-                slice: Slice::Transmit,
-                range: header.start..place.end,
-            }],
-            ..Answer::default()
-        })
-    }
-
-    fn unused_address(&self) -> u8 {
-        let used = |address: &u8| {
-            let mut endpoints = self.endpoints.iter();
-            endpoints.any(|endpoint| endpoint.address == Some(*address))
-        };
-        let mut unused = (0..).filter(|address| !used(address));
-        unused.next().expect("fewer endpoints than addresses")
-    }
-
-    /// Binds to a stored binding of that name, or waits for one to arrive.
-    fn await_binding(&mut self, name: Name) -> Answer {
-        let stored = self.incoming.iter().find_map(|run| match &run.state {
-            Incoming::Stored {
-                name: stored,
-                address,
-            } if *stored == name => Some((run.start, *address)),
-            _ => None,
-        });
-        let mut endpoint = Endpoint {
-            name,
-            address: None,
-            bound: false,
-        };
-        let wrong = Given::control(ControlKind::ReleaseBound, 0, 0);
-        let mut given = unless(Fault::WaitingGivesControl, Given::Nothing, wrong);
-        if let Some((start, address)) = stored {
-            endpoint.bind(address);
-            if !planted(Fault::TakenBindingHolds) {
-                self.incoming.release(start);
-            }
-            given = Given::control(ControlKind::ReleaseBound, address, start);
-        }
-        self.endpoints.push(endpoint);
-        Answer::giving(given)
-    }
-
     /// The partner has taken the binding message of this address.
     pub fn confirm(&mut self, address: u8) {
         for endpoint in &mut self.endpoints {

@@ -59,6 +59,20 @@ pub struct Control {
 }
 
 impl Control {
+    /// Tells the partner of a message. A start is one of at most 256 blocks, so
+    /// it fits a byte.
+    pub fn new(kind: ControlKind, address: u8, start: u32) -> Self {
+        Control {
+            kind,
+            address,
+            block: start as u8,
+        }
+    }
+
+    pub fn bytes(&self) -> [u8; CONTROL] {
+        [self.kind as u8, self.address, self.block]
+    }
+
     pub fn read(bytes: &[u8]) -> Result<Self, Refusal> {
         let mut first = *bytes.first().ok_or(Refusal::TooShort)?;
         if planted(Fault::KindOfTwoBits) {

@@ -2,10 +2,12 @@
 
 use std::ops::Range;
 
-use super::answer::{Answer, Given, Slice, Written};
+use super::answer::{Answer, Given};
 use super::binding::Name;
-use super::control::ControlKind;
+use super::control::{Control, ControlKind};
 use super::region::framed;
+use super::runs::Run;
+use super::telling::{spoiled, Notice};
 use super::{Open, HEADER};
 use crate::link::fault::{in_order, planted, unless, Fault};
 use crate::link::refusal::{refuse, Refusal};
@@ -15,6 +17,12 @@ pub enum Outgoing {
     Reserved,
     Data,
     Binding { address: u8 },
+}
+
+impl Outgoing {
+    fn is_reserved(&self) -> bool {
+        matches!(self, Outgoing::Reserved)
+    }
 }
 
 /// What receive blocks are in use for.
@@ -88,14 +96,14 @@ impl Open {
         k: u32,
     ) -> Result<Answer, Refusal> {
         self.transmit.check_whole(transmit.len())?;
+        self.full_early(Fault::FullBeforeReserved, transmit)?;
         let bound = self.check_bound(address);
         if planted(Fault::BoundBeforeStart) {
             bound?;
         }
-        let run = self
-            .outgoing
-            .find(start, |state| matches!(state, Outgoing::Reserved))?;
-        let too_long = framed(k) > self.transmit.bytes_of(run.count);
+        let run = self.outgoing.find(start, Outgoing::is_reserved)?;
+        let [start, count] = [run.start, run.count];
+        let too_long = framed(k) > self.transmit.bytes_of(count);
         let fits = refuse(
             too_long && !planted(Fault::SendUnlimited),
             Refusal::CannotFit,
@@ -103,22 +111,12 @@ impl Open {
         if planted(Fault::RefusedSendWrites) && bound.is_ok() {
             self.transmit.write_k(transmit, start, k);
         }
+        let bound = self.full_early(Fault::FullBeforeBound, transmit).and(bound);
+        let fits = self.full_early(Fault::FullBeforeFit, transmit).and(fits);
         in_order(Fault::FitBeforeBound, bound, fits)?;
-
-        self.transmit.write_k(transmit, start, k);
-        if !planted(Fault::SendKeepsAll) {
-            run.count = self.transmit.count_for(k) as u32;
-        }
-        run.state = Outgoing::Data;
-        Ok(Answer {
-            // The address is an endpoint's, which has a byte.
-            given: Given::control(ControlKind::Data, address as u8, start),
-            written: vec![Written {
-                slice: Slice::Transmit,
-                range: self.transmit.header(start),
-            }],
-            ..Answer::default()
-        })
+        // The address is an endpoint's, which has a byte.
+        let address = address as u8;
+        self.tell(transmit, Sent { start, address, k })
     }
 
     /// Gives a reservation up.
@@ -163,15 +161,92 @@ impl Open {
     }
 
     /// Forgets a received message.
-    pub fn done(&mut self, start: u32) -> Result<Answer, Refusal> {
-        self.incoming.find(start, |state| match state {
+    pub fn done(&mut self, transmit: &mut [u8], start: u32) -> Result<Answer, Refusal> {
+        let whole = self.transmit.check_whole(transmit.len());
+        let held = self.incoming.find(start, |state| match state {
             Incoming::Data { .. } => true,
             Incoming::Stored { .. } => planted(Fault::DoneOfStored),
-        })?;
-        self.incoming.release(start);
-        let given = Given::control(ControlKind::ReleaseData, 0, start);
-        let given = unless(Fault::DoneGivesDelivery, given, given.as_delivery());
-        Ok(Answer::giving(given))
+        });
+        let held = held.map(|run| run.start);
+        if whole.is_err() && planted(Fault::DoneLentAnything) {
+            let mut beside = vec![0; self.transmit.length()];
+            return self.tell(&mut beside, Forgotten { start: held? });
+        }
+        let lent = whole.and_then(|()| self.full_early(Fault::FullBeforeHeld, transmit));
+        in_order(Fault::HeldBeforeLent, lent, held.map(|_| ()))?;
+        let mut answer = self.tell(transmit, Forgotten { start: held? })?;
+        let wrong = answer.given.as_delivery();
+        answer.given = unless(Fault::DoneGivesDelivery, answer.given, wrong);
+        Ok(answer)
+    }
+}
+
+/// A reservation that is sent.
+struct Sent {
+    start: u32,
+    address: u8,
+    k: u32,
+}
+
+impl Sent {
+    fn run<'a>(&self, open: &'a mut Open) -> &'a mut Run<Outgoing> {
+        let run = open.outgoing.find(self.start, Outgoing::is_reserved);
+        run.expect("a reservation that was checked")
+    }
+
+    /// Frees the blocks beyond the need.
+    fn trim(&self, open: &mut Open) {
+        let count = open.transmit.count_for(self.k) as u32;
+        self.run(open).count = count;
+    }
+}
+
+impl Notice for Sent {
+    fn control(&self) -> Control {
+        Control::new(ControlKind::Data, self.address, self.start)
+    }
+
+    fn take_effect(self, open: &mut Open, transmit: &mut [u8]) -> Option<Range<usize>> {
+        open.transmit.write_k(transmit, self.start, self.k);
+        if !planted(Fault::SendKeepsAll) {
+            self.trim(open);
+        }
+        self.run(open).state = Outgoing::Data;
+        Some(open.transmit.header(self.start))
+    }
+
+    fn spoil(self, open: &mut Open, transmit: &mut [u8], refusal: Refusal) {
+        if planted(Fault::HeaderBeforeRing) {
+            open.transmit.write_k(transmit, self.start, self.k);
+        }
+        if refusal == Refusal::Full && planted(Fault::FullTrims) {
+            self.trim(open);
+        }
+        if spoiled(refusal, Fault::FullSends, Fault::BadIndexSends) {
+            self.run(open).state = Outgoing::Data;
+        }
+    }
+}
+
+/// A received message that is done with.
+struct Forgotten {
+    start: u32,
+}
+
+impl Notice for Forgotten {
+    fn control(&self) -> Control {
+        Control::new(ControlKind::ReleaseData, 0, self.start)
+    }
+
+    fn take_effect(self, open: &mut Open, _: &mut [u8]) -> Option<Range<usize>> {
+        open.incoming.release(self.start);
+        None
+    }
+
+    fn spoil(self, open: &mut Open, _: &mut [u8], refusal: Refusal) {
+        if spoiled(refusal, Fault::FullForgets, Fault::BadIndexForgets) {
+            open.incoming.release(self.start);
+        }
     }
 }
 

@@ -8,8 +8,10 @@ mod binding;
 mod control;
 mod messages;
 mod region;
+mod registering;
 mod rings;
 mod runs;
+mod telling;
 
 pub use answer::{Answer, Given, Outcome, Refused, Slice};
 pub use binding::{Endpoint, Name, LONGEST_NAME, MOST_ENDPOINTS};

@@ -30,7 +30,7 @@ impl Open {
     }
 
     /// Goes on behind a packet that begins at an index.
-    fn pushed(&mut self, index: u32, moved: Moved) -> Answer {
+    pub fn pushed(&mut self, index: u32, moved: Moved) -> Answer {
         let Moved { length, own_index } = moved;
         self.write_index = own_index;
         let region = &self.transmit;
@@ -75,7 +75,7 @@ impl Open {
     }
 }
 
-fn transmitted(range: Range<usize>) -> Written {
+pub fn transmitted(range: Range<usize>) -> Written {
     Written {
         slice: Slice::Transmit,
         range,

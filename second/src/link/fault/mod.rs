@@ -4,14 +4,14 @@
 //! One at a time is planted for the whole program, so the code that has it in
 //! it asks at one place and nobody hands it on.
 
-use std::sync::atomic::{AtomicU8, Ordering};
+use std::sync::atomic::{AtomicU16, Ordering};
 
 /// Writes the enum, its members by what they are planted in, and their names and
 /// descriptions once more as text.
 macro_rules! faults {
     ($($group:ident { $($(#[doc = $line:literal])+ $name:ident,)+ })+) => {
         #[derive(Clone, Copy, PartialEq, Eq)]
-        #[repr(u8)]
+        #[repr(u16)]
         pub enum Fault {
             $($($(#[doc = $line])+ $name,)+)+
         }
@@ -44,11 +44,11 @@ mod list;
 pub use list::Fault;
 
 /// One more than the planted fault; 0 is none.
-static PLANTED: AtomicU8 = AtomicU8::new(0);
+static PLANTED: AtomicU16 = AtomicU16::new(0);
 
 /// True while this fault is planted.
 pub fn planted(fault: Fault) -> bool {
-    PLANTED.load(Ordering::Relaxed) == fault as u8 + 1
+    PLANTED.load(Ordering::Relaxed) == fault as u16 + 1
 }
 
 /// The right value, unless the fault is planted.
@@ -71,7 +71,7 @@ pub fn in_order<E: Copy>(
 
 /// Runs something with the fault planted.
 pub fn with<R>(fault: Fault, run: impl FnOnce() -> R) -> R {
-    PLANTED.store(fault as u8 + 1, Ordering::Relaxed);
+    PLANTED.store(fault as u16 + 1, Ordering::Relaxed);
     let result = run();
     PLANTED.store(0, Ordering::Relaxed);
     result

@@ -3,8 +3,9 @@
 use super::reading::Stop;
 use super::record::Record;
 use super::row::{Row, ROW_BYTES};
-use crate::link::end::{Answer, End, Opening, Outcome, Slice};
+use crate::link::end::{Answer, Control, ControlKind, End, Given, Open, Opening, Outcome, Slice};
 use crate::link::fault::{planted, Fault};
+use crate::link::refusal::Refusal;
 
 /// The slices that a script works on.
 pub struct Memory<'a> {
@@ -55,19 +56,18 @@ impl Player {
         let transmit = first(memory.transmit, self.transmit_lent);
         let receive = first(memory.receive, self.receive_lent);
         match *record {
-            Record::Arrival(control) => end.call(|open| {
-                if planted(Fault::HeaderDecides) {
-                    open.trust_headers(transmit);
-                }
-                open.arrival(receive, control)
-            }),
+            Record::Arrival(control) => end.call(|open| arrival(open, transmit, receive, control)),
             Record::Register(name) => end.call(|open| open.register(transmit, name)),
             Record::Reserve { k } => end.call(|open| open.reserve(k)),
             Record::Send { start, address, k } => {
-                end.call(|open| open.send(transmit, start, address, k))
+                let outcome = end.call(|open| open.send(transmit, start, address, k));
+                sent(
+                    outcome,
+                    Control::new(ControlKind::Data, address as u8, start),
+                )
             }
             Record::Drop { start } => end.call(|open| open.drop_reservation(start)),
-            Record::Done { start } => end.call(|open| open.done(start)),
+            Record::Done { start } => end.call(|open| open.done(transmit, start)),
             Record::Push(content) => end.ring_call(|open| open.push(transmit, content)),
             Record::Start => end.ring_call(|open| open.start(transmit)),
             Record::Pull { buffer_length } => {
@@ -102,6 +102,37 @@ impl Player {
         let slices = [&*memory.transmit, &*memory.receive, &*memory.buffer];
         Row::new(outcome, self.end.free_blocks(), slices)
     }
+}
+
+/// An arrival. It is not lent the transmit bytes, which planted faults use.
+fn arrival(
+    open: &mut Open,
+    transmit: &mut [u8],
+    receive: &[u8],
+    control: &[u8],
+) -> Result<Answer, Refusal> {
+    if planted(Fault::HeaderDecides) {
+        open.trust_headers(transmit);
+    }
+    let answer = open.arrival(receive, control)?;
+    match answer.given {
+        Given::Control(reply) if planted(Fault::ReplyPushed) => {
+            // If the ring refuses it, the caller still has it.
+            let _ = open.push(transmit, &reply);
+        }
+        _ => {}
+    }
+    Ok(answer)
+}
+
+/// What comes of a send. A planted fault gives its control message though the
+/// ring refuses it.
+fn sent(mut outcome: Outcome, control: Control) -> Outcome {
+    let by_ring = [Refusal::BadIndex as u32, Refusal::Full as u32];
+    if by_ring.contains(&outcome.number) && planted(Fault::RefusedSendGives) {
+        outcome.answer.given = Given::Control(control.bytes());
+    }
+    outcome
 }
 
 /// That many first bytes, or all if there are fewer.

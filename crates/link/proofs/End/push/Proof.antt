@@ -1,7 +1,7 @@
 use Prim.Native.Nat.{ℕ}
 use mathlib.Core.Bool.{true}
 use mathlib.Core.List.{List}
-use mathlib.Core.Path.{_≡_, refl, ap, _∙_}
+use mathlib.Core.Path.{_≡_, refl, sym, ap, _∙_}
 use borrow.Author.Tests.{not-true, not-false}
 use lib.ListN.{length}
 use denote.Ref.{now}
@@ -10,12 +10,14 @@ use Rattle.icmsg.specs.declared.Ring.{Ring}
 use Rattle.icmsg.proofs.Indexes.{refusals}
 use Rattle.endpoints.specs.declared.Endpoint.{Endpoint}
 use Rattle.endpoints.specs.declared.Binding.{Binding}
+use Rattle.icbmsg.specs.Outcome.{Outcome, withoutWrites}
 use Rattle.icbmsg.specs.End.{End}
 use Rattle.checks.specs.Parts.{joined}
 use Rattle.checks.proofs.OpenSays.{not-whole, is-whole}
 use Rattle.icmsg.specs.Rules.{Outcome as RingOutcome, pushRule as ringPush}
 use Rattle.icbmsg.specs.Ends.{whole, changed}
-use Rattle.icbmsg.specs.Rings.{ringOf, pushed, pushOf}
+use Rattle.icbmsg.specs.Rings.{ringOf, pushed}
+use Rattle.icbmsg.proofs.AllOrNothing.{push-answer}
 use Rattle.link.proofs.Clauses.{each-of-three}
 use Rattle.link.proofs.RingCalls.{ring-6, push-told, ring-refused}
 use borrow.Author.Needs.{needs}
@@ -35,12 +37,12 @@ refused-requires : tie.Need-refused-requires
 refused-requires c κs = search needs
 
 returns : tie.Need-returns
-unfolding pushOf
 returns c = each-of-three (λ t ps bs.
     let a = c .before .before .before .before .before .args in
     let e = of (c .before .before .before .before .before) t ps bs in
+    let q = sym (push-answer e (now (a .content)) (now (a .tx))) in
     let r = ring-6 e _ (pushed e (ringPush (now (a .tx)) (ringOf (a .numbers .alignment) (a .numbers .tx)) (a .numbers .write) (now (a .content)))) (λ o. o .tx) (now (a .tx)) (not-whole e (a .numbers .tx) (length (now (a .tx))) _ (c .before .before .is-whole .ensures) (not-true _ (c .before .if1 .taken))) refl in
-    (ring-refused (c .refused .result) (a .numbers) t ps bs (c .refused .ensures) ∙ r .0, r .1))
+    (ring-refused (c .refused .result) (a .numbers) t ps bs (c .refused .ensures) ∙ r .0 ∙ ap withoutWrites q, r .1 ∙ ap (λ (o : Outcome). wrote (now (a .tx)) (o .tx)) q))
 
 ring-of-requires : tie.Need-ring-of-requires
 ring-of-requires c κs = search needs
@@ -58,15 +60,16 @@ same-length : tie.Need-same-length
 same-length c = search needs
 
 returns-2 : tie.Need-returns-2
-unfolding pushOf changed
+unfolding changed
 returns-2 c = each-of-three (λ t ps bs.
     let a = c .before .before .before .before .before .before .before .before .before .before .before .args in
     let r = ap (λ (g : Ring). ringPush (now (a .tx)) g (a .numbers .write) (now (a .content))) (c .before .before .before .before .before .ring-of .ensures) in
     let o : RingOutcome = ringPush (now (a .tx)) (ringOf (a .numbers .alignment) (a .numbers .tx)) (a .numbers .write) (now (a .content)) in
     let p = c .before .before .before .before .push .ensures in
+    let q = sym (push-answer (of (c .before .before .before .before .before .before .before .before .before .before .before) t ps bs) (now (a .content)) (now (a .tx))) in
     let w = push-told o _
     (p .0 ∙ ap (λ (x : RingOutcome). x .answer) r) (c .told .result) (c .told .ensures .0) (c .told .ensures .1) _ (of (c .before .before .before .before .before .before .before .before .before .before .before) t ps bs) (refusals .push (now (a .tx)) (ringOf (a .numbers .alignment) (a .numbers .tx)) (a .numbers .write) (now (a .content))) _ (lent (c .before .before .before .before .before .before .before) t ps bs) (c .before .index-after .ensures) in
-    (w .0, p .1 ∙ ap (λ (x : RingOutcome). wrote (now (a .tx)) (x .region)) r ∙ ap (wrote (now (a .tx))) (w .1)))
+    (w .0 ∙ ap withoutWrites q, p .1 ∙ ap (λ (x : RingOutcome). wrote (now (a .tx)) (x .region)) r ∙ ap (wrote (now (a .tx))) (w .1) ∙ ap (λ (o : Outcome). wrote (now (a .tx)) (o .tx)) q))
 
 pub push-spec : {M : Type 1} → statement M
 push-spec =

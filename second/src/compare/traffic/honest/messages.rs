@@ -5,8 +5,11 @@ use crate::link::end::{Given, Slice, BOUND, MOST_ENDPOINTS, RELEASE_BOUND};
 use crate::link::script::Record;
 
 pub fn register(pair: &mut Pair, side: usize) -> bool {
-    let number = pair.sides[side].registered;
-    if number == MOST_ENDPOINTS || !pair.random.one_in(4) {
+    let caller = &pair.sides[side];
+    let number = caller.registered;
+    // An initiator's binding is pushed at once.
+    let too_early = caller.state().initiator && !caller.bonded;
+    if number == MOST_ENDPOINTS || too_early || !pair.random.one_in(4) {
         return false;
     }
     // The two sides use the same names, the second in another order. Long
@@ -14,7 +17,7 @@ pub fn register(pair: &mut Pair, side: usize) -> bool {
     let number = if side == 0 { number } else { number ^ 1 };
     let name = names::numbered(number as u64 * names::NAMES / MOST_ENDPOINTS as u64);
     let free = pair.sides[side].free();
-    let outcome = pair.call(side, Record::Register(&name), &[23, 24]);
+    let outcome = pair.pushing_call(side, Record::Register(&name), &[23, 24]);
     if outcome.number != 0 {
         return false;
     }
@@ -28,7 +31,6 @@ pub fn register(pair: &mut Pair, side: usize) -> bool {
         Given::Control([RELEASE_BOUND, address, _]) => caller.bound.push(address),
         _ => {}
     }
-    pair.answered(side, &outcome);
     true
 }
 
@@ -66,7 +68,7 @@ pub fn give_up(pair: &mut Pair, side: usize) -> bool {
     true
 }
 
-/// Fills a room and sends it.
+/// Fills a room and sends it. If the ring is full, it stays reserved.
 pub fn use_room(pair: &mut Pair, side: usize) -> bool {
     let Side {
         reserved, bound, ..
@@ -82,8 +84,9 @@ pub fn use_room(pair: &mut Pair, side: usize) -> bool {
         address: address.into(),
         k: content.len() as u32,
     };
-    let outcome = pair.call(side, record, &[]);
-    pair.answered(side, &outcome);
+    if pair.pushing_call(side, record, &[]).number != 0 {
+        return false;
+    }
     let caller = &mut pair.sides[side];
     caller.reserved.retain(|&reserved| reserved != start);
     caller.sent.insert(start, Message { address, content });
@@ -147,10 +150,11 @@ pub fn done(pair: &mut Pair, side: usize) -> bool {
         return false;
     };
     check_view(pair, side, start);
-    let outcome = pair.call(side, Record::Done { start }, &[]);
-    pair.sides[side].held.retain(|&held| held != start);
-    pair.answered(side, &outcome);
-    true
+    let done = pair.pushing_call(side, Record::Done { start }, &[]).number == 0;
+    if done {
+        pair.sides[side].held.retain(|&held| held != start);
+    }
+    done
 }
 
 fn pick_held(pair: &mut Pair, side: usize) -> Option<u32> {

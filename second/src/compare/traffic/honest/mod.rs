@@ -3,8 +3,8 @@
 //!
 //! Packets of a ring stay in order, and the start content comes before all
 //! others: by it a side knows that its partner is there. Nothing else does:
-//! any of the answers that wait is pushed next, and any of the control messages
-//! that were pulled is handed over next.
+//! replies to bindings that have arrived are pushed late and in any order, and
+//! any of the control messages that were pulled is handed over next.
 //!
 //! So a follower's data can overtake its release of the binding. It binds the
 //! initiator's endpoint, which is sent on from then on; the blocks of the
@@ -15,6 +15,10 @@
 //!
 //! These refusals are all that the ends can meet: 8, nothing to pull yet; 24,
 //! blocks in use; 23, a message or name longer than all blocks.
+//!
+//! In some pairs both also push messages of unknown kind, 13, until the rings
+//! are full. There send, register and done meet 10, too. What they were called
+//! for is as it was then, so they are tried again later.
 
 mod messages;
 mod packets;
@@ -26,7 +30,7 @@ use super::case::Case;
 use super::session::Session;
 use super::{names, openings};
 use crate::compare::random::Random;
-use crate::link::end::{Given, Incoming, Open, Outcome, Outgoing, Slice};
+use crate::link::end::{Given, Incoming, Name, Open, Outcome, Outgoing, Slice, CONTROL};
 use crate::link::script::Record;
 
 /// Bytes of the buffer: the longest content is that of the start.
@@ -36,10 +40,11 @@ const BUFFER: usize = 16;
 type Act = fn(&mut Pair, usize) -> bool;
 
 /// What both sides do all the time.
-const ACTS: [Act; 10] = [
+const ACTS: [Act; 11] = [
     packets::pull,
     packets::arrival,
-    packets::push,
+    packets::reply,
+    packets::crowd,
     messages::register,
     messages::reserve,
     messages::use_room,
@@ -55,11 +60,11 @@ const SETTLING: [Act; 5] = [
     packets::arrival,
     messages::give_up,
     messages::done,
-    packets::push,
+    packets::reply,
 ];
 
-/// Rounds of settling after which nothing is under way: a message that waits to
-/// be pushed takes two to be released, and the two sides take turns.
+/// Rounds of settling after which nothing is under way: a ring that is full takes
+/// one to be emptied, a message two to be released, and the two sides take turns.
 const SETTLING_ROUNDS: usize = 4;
 
 /// What two ends came to.
@@ -87,10 +92,12 @@ pub fn honest(random: &mut Random) -> Honest {
     let opening = openings::good(random);
     let records = openings::records(random, &opening);
     let spare = random.pick(&[0, 0, 1, 8]);
+    let crowded = random.one_in(3);
     let mut pair = Pair {
         sides: [opening, opening.swapped()]
             .map(|opening| Side::new(Session::open(opening, BUFFER, spare))),
         random,
+        crowded,
         complaints: Vec::new(),
         overtaken: Overtaken::default(),
     };
@@ -102,6 +109,7 @@ pub fn honest(random: &mut Random) -> Honest {
         random,
         complaints,
         overtaken,
+        ..
     } = pair;
     Honest {
         cases: sides.map(|side| side.session.finish(random)),
@@ -125,8 +133,8 @@ struct Side {
     on_ring: usize,
     /// The partner's start content was seen.
     bonded: bool,
-    /// Control messages to be pushed.
-    to_push: Vec<[u8; 3]>,
+    /// Replies to bindings that have arrived, not yet pushed.
+    replies: Vec<[u8; CONTROL]>,
     /// Contents pulled and not yet handed over.
     pulled: Vec<Vec<u8>>,
     registered: usize,
@@ -149,7 +157,7 @@ impl Side {
             started: false,
             on_ring: 0,
             bonded: false,
-            to_push: Vec::new(),
+            replies: Vec::new(),
             pulled: Vec::new(),
             registered: 0,
             bound: Vec::new(),
@@ -169,11 +177,25 @@ impl Side {
         let open = self.state();
         open.transmit.free(&open.outgoing)
     }
+
+    /// The name of the endpoint that has this address.
+    fn name(&self, address: u8) -> Option<&Name> {
+        let mut endpoints = self.state().endpoints.iter();
+        let endpoint = endpoints.find(|endpoint| endpoint.address == Some(address));
+        endpoint.map(|endpoint| &endpoint.name)
+    }
+
+    fn has_registered(&self, name: Option<&Name>) -> bool {
+        let mut endpoints = self.state().endpoints.iter();
+        endpoints.any(|endpoint| Some(&endpoint.name) == name)
+    }
 }
 
 struct Pair<'r> {
     sides: [Side; 2],
     random: &'r mut Random,
+    /// Messages of unknown kind fill the rings.
+    crowded: bool,
     complaints: Vec<String>,
     overtaken: Overtaken,
 }
@@ -226,15 +248,19 @@ impl Pair<'_> {
                 while act(self, side) {}
             }
         }
-        for side in &self.sides {
+        for number in [0, 1] {
+            let [side, partner] = [&self.sides[number], &self.sides[1 - number]];
             let open = side.state();
             let bindings_only = open.outgoing.iter().all(|run| match run.state {
-                Outgoing::Binding { address } => !side.bound.contains(&address),
+                Outgoing::Binding { address } => {
+                    let registered = partner.has_registered(side.name(address));
+                    !registered && !side.bound.contains(&address)
+                }
                 Outgoing::Data | Outgoing::Reserved => false,
-            }) && open
-                .incoming
-                .iter()
-                .all(|run| matches!(run.state, Incoming::Stored { .. }));
+            }) && open.incoming.iter().all(|run| match &run.state {
+                Incoming::Stored { name, .. } => !side.has_registered(Some(name)),
+                Incoming::Data { .. } => false,
+            });
             if !bindings_only || !side.sent.is_empty() {
                 self.complaints
                     .push("a message was never released".to_string());
@@ -243,9 +269,20 @@ impl Pair<'_> {
     }
 
     fn start(&mut self, side: usize) {
-        self.call(side, Record::Start, &[]);
+        self.pushing_call(side, Record::Start, &[]);
         self.sides[side].started = true;
-        self.sides[side].on_ring = 1;
+    }
+
+    /// A call of one side that can put a packet on its ring, which may be full in
+    /// a crowd.
+    fn pushing_call(&mut self, side: usize, record: Record, refusals: &[u32]) -> Outcome {
+        let full: &[u32] = if self.crowded { &[10] } else { &[] };
+        let outcome = self.call(side, record, &[refusals, full].concat());
+        let pushes = matches!(outcome.answer.given, Given::Control(_) | Given::Length(_));
+        if outcome.number == 0 && pushes {
+            self.sides[side].on_ring += 1;
+        }
+        outcome
     }
 
     /// A call of one side, which may come to nothing but these refusals.
@@ -279,12 +316,5 @@ impl Pair<'_> {
         };
         let unseen = (seen_as, range.start, bytes[range].to_vec());
         self.sides[1 - side].unseen.push(unseen);
-    }
-
-    /// Control bytes that a call gave are to be pushed.
-    fn answered(&mut self, side: usize, outcome: &Outcome) {
-        if let Given::Control(bytes) = outcome.answer.given {
-            self.sides[side].to_push.push(bytes);
-        }
     }
 }

@@ -2,6 +2,7 @@
 
 use super::{Pair, BUFFER};
 use crate::link::end::{Control, ControlKind, Given, Outcome, CONTROL};
+use crate::link::refusal::Refusal;
 use crate::link::ring::is_start;
 use crate::link::script::Record;
 
@@ -37,9 +38,16 @@ pub fn arrival(pair: &mut Pair, side: usize) -> bool {
     let Some(content) = pair.random.take(&mut pair.sides[side].pulled) else {
         return false;
     };
-    let (Ok(control), CONTROL) = (Control::read(&content), content.len()) else {
-        pair.complain(format!("{content:02x?} was pulled"));
-        return true;
+    let control = match Control::read(&content) {
+        Ok(control) if content.len() == CONTROL => control,
+        Err(Refusal::UnknownKind) if pair.crowded => {
+            pair.call(side, Record::Arrival(&content), &[13]);
+            return true;
+        }
+        _ => {
+            pair.complain(format!("{content:02x?} was pulled"));
+            return true;
+        }
     };
     let free = pair.sides[side].free();
     let outcome = pair.call(side, Record::Arrival(&content), &[]);
@@ -67,10 +75,10 @@ fn arrived(pair: &mut Pair, side: usize, control: Control, outcome: &Outcome, fr
             }
         }
         ControlKind::Bound => {
-            if matches!(outcome.answer.given, Given::Control(_)) {
+            if let Given::Control(reply) = outcome.answer.given {
                 caller.bound.push(control.address);
+                caller.replies.push(reply);
             }
-            pair.answered(side, outcome);
         }
         ControlKind::ReleaseBound => released(pair, side, control.address, freed),
     }
@@ -120,16 +128,27 @@ fn check_arrived(pair: &mut Pair, side: usize, outcome: &Outcome) {
     }
 }
 
-pub fn push(pair: &mut Pair, side: usize) -> bool {
-    // Nobody sends before its partner is there. The ring has space for all
-    // messages that there can be at a time, so no push is refused.
-    if !pair.sides[side].bonded {
-        return false;
-    }
-    let Some(control) = pair.random.take(&mut pair.sides[side].to_push) else {
+/// Pushes the reply to a binding that has arrived. The ring has space for all
+/// control messages that there can be at a time, so it is refused in a crowd
+/// alone, and waits.
+pub fn reply(pair: &mut Pair, side: usize) -> bool {
+    let Some(reply) = pair.random.take(&mut pair.sides[side].replies) else {
         return false;
     };
-    pair.call(side, Record::Push(&control), &[]);
-    pair.sides[side].on_ring += 1;
-    true
+    let pushed = pair.pushing_call(side, Record::Push(&reply), &[]).number == 0;
+    if !pushed {
+        pair.sides[side].replies.push(reply);
+    }
+    pushed
+}
+
+/// Pushes a message of unknown kind. Nobody sends before its partner is there.
+pub fn crowd(pair: &mut Pair, side: usize) -> bool {
+    if !pair.crowded || !pair.sides[side].bonded {
+        return false;
+    }
+    let length = pair.random.between(1, 12) as usize;
+    let mut content = pair.random.bytes(length);
+    content[0] = pair.random.between(4, 255) as u8;
+    pair.pushing_call(side, Record::Push(&content), &[]).number == 0
 }

@@ -16,6 +16,12 @@ impl Lone<'_> {
             .map_or(4, |open| region(open).block_count())
     }
 
+    /// Bytes of the transmit and of the receive region.
+    pub fn whole_lengths(&self) -> [u32; 2] {
+        let opening = self.session.opening();
+        [opening.transmit(), opening.receive()].map(|region| region.end.wrapping_sub(region.begin))
+    }
+
     /// A start for a call on a message, one of the wanted if there are any.
     pub fn start_of(&mut self, wanted: &[u32], block_count: u32) -> u32 {
         let usual = if wanted.is_empty() || self.random.one_in(6) {

@@ -14,8 +14,10 @@ pub fn start(lone: &mut Lone) {
     }
 }
 
-pub fn push(lone: &mut Lone) {
-    let space = match lone.session.state() {
+/// The longest packet that fits on the transmit ring now; of a closed end, or if
+/// the partner's index is a bad one, any number.
+pub fn space(lone: &Lone) -> usize {
+    match lone.session.state() {
         Some(open) => {
             let region = &open.transmit;
             let read = number_at(&lone.session.transmit, region.read_index_place());
@@ -23,8 +25,11 @@ pub fn push(lone: &mut Lone) {
             ahead.rem_euclid(region.layout.data_length.into()) as usize
         }
         None => 8,
-    };
-    let length = content_length(lone.random, space).min(LONGEST_CONTENT);
+    }
+}
+
+pub fn push(lone: &mut Lone) {
+    let length = content_length(lone.random, space(lone)).min(LONGEST_CONTENT);
     let content = lone.random.bytes(length);
     lone.session.play(Record::Push(&content));
 }
@@ -115,17 +120,16 @@ pub fn view(lone: &mut Lone) {
 }
 
 pub fn question(lone: &mut Lone) {
-    let opening = lone.session.opening();
     let of_room = lone.random.one_in(2);
-    let (wanted, block_count, region) = if of_room {
+    let [transmit_length, receive_length] = lone.whole_lengths();
+    let (wanted, block_count, whole) = if of_room {
         let wanted = outgoing(&lone.session, |_| true);
-        (wanted, lone.block_count(transmit), opening.transmit())
+        (wanted, lone.block_count(transmit), transmit_length)
     } else {
         let wanted = incoming(&lone.session);
-        (wanted, lone.block_count(receive), opening.receive())
+        (wanted, lone.block_count(receive), receive_length)
     };
     let start = lone.start_of(&wanted, block_count);
-    let whole = region.end.wrapping_sub(region.begin);
     let length = if lone.is_odd() {
         odd_length(lone, whole)
     } else {
@@ -140,9 +144,7 @@ pub fn question(lone: &mut Lone) {
 
 /// Lends lengths that need not be the regions'.
 pub fn lend(lone: &mut Lone) {
-    let opening = lone.session.opening();
-    let [transmit, receive] = [opening.transmit(), opening.receive()].map(|region| {
-        let whole = region.end.wrapping_sub(region.begin);
+    let [transmit, receive] = lone.whole_lengths().map(|whole| {
         if lone.random.one_in(3) {
             whole
         } else {
@@ -153,17 +155,12 @@ pub fn lend(lone: &mut Lone) {
     // Long phases of refusals would show little.
     if !lone.random.one_in(4) {
         let acts = lone.random.between(1, 4);
-        for _ in 0..acts {
-            let act = lone.random.pick(&HOSTILE_ACTS);
-            act(lone);
-        }
+        lone.act(&HOSTILE_ACTS, acts);
         lend_whole(lone);
     }
 }
 
 pub fn lend_whole(lone: &mut Lone) {
-    let opening = lone.session.opening();
-    let [transmit, receive] =
-        [opening.transmit(), opening.receive()].map(|region| region.end.wrapping_sub(region.begin));
+    let [transmit, receive] = lone.whole_lengths();
     lone.session.play(Record::Lend { transmit, receive });
 }

@@ -3,6 +3,7 @@
 
 mod arguments;
 mod calls;
+mod full;
 mod partner;
 
 use super::case::Case;
@@ -10,6 +11,7 @@ use super::session::Session;
 use super::{names, openings};
 use crate::compare::random::Random;
 use crate::link::end::{Given, Opening, Slice, BOUND, HEADER, RELEASE_BOUND};
+use crate::link::refusal::Refusal;
 use crate::link::script::Record;
 
 /// The most bytes that the receive region is filled with at first.
@@ -55,6 +57,17 @@ pub fn hostile(random: &mut Random) -> Case {
     lone(random, opening, records, 24, &HOSTILE_ACTS)
 }
 
+/// A script of a partner that does not pull what is on the transmit ring.
+pub fn full_ring(random: &mut Random) -> Case {
+    let opening = openings::good(random);
+    let records = openings::records(random, &opening);
+    let mut lone = Lone::open(random, opening, 12);
+    while lone.session.rows() < records {
+        full::round(&mut lone);
+    }
+    lone.finish()
+}
+
 /// A script of a caller that hands over nonsense.
 pub fn nonsense(random: &mut Random) -> Case {
     let acts = [&HOSTILE_ACTS[..], &NONSENSE_ACTS].concat();
@@ -69,14 +82,7 @@ pub fn nonsense(random: &mut Random) -> Case {
 }
 
 fn lone(random: &mut Random, opening: Opening, records: usize, odd: u64, acts: &[Act]) -> Case {
-    let buffer_length = random.pick(&[0, 3, 8, 16, 16, 48]);
-    let spare = random.pick(&[0, 0, 1, 9]);
-    let mut lone = Lone {
-        session: Session::open(opening, buffer_length, spare),
-        random,
-        odd,
-    };
-    lone.settle();
+    let mut lone = Lone::open(random, opening, odd);
     let mut weights = lone.weights(acts.len());
     while lone.session.rows() < records {
         if lone.random.one_in(20) {
@@ -85,10 +91,7 @@ fn lone(random: &mut Random, opening: Opening, records: usize, odd: u64, acts: &
         let act = lone.weighted(&weights);
         acts[act](&mut lone);
     }
-    let Lone {
-        session, random, ..
-    } = lone;
-    session.finish(random)
+    lone.finish()
 }
 
 struct Lone<'r> {
@@ -98,7 +101,31 @@ struct Lone<'r> {
     odd: u64,
 }
 
-impl Lone<'_> {
+impl<'r> Lone<'r> {
+    fn open(random: &'r mut Random, opening: Opening, odd: u64) -> Self {
+        let buffer_length = random.pick(&[0, 3, 8, 16, 16, 48]);
+        let spare = random.pick(&[0, 0, 1, 9]);
+        let mut lone = Lone {
+            session: Session::open(opening, buffer_length, spare),
+            random,
+            odd,
+        };
+        lone.settle();
+        lone
+    }
+
+    fn finish(self) -> Case {
+        self.session.finish(self.random)
+    }
+
+    /// So many acts, any of these.
+    fn act(&mut self, acts: &[Act], times: i64) {
+        for _ in 0..times {
+            let act = self.random.pick(acts);
+            act(self);
+        }
+    }
+
     /// Acts come in phases, in which some are frequent and some are not tried.
     fn weights(&mut self, acts: usize) -> Vec<u64> {
         (0..acts)
@@ -140,7 +167,12 @@ impl Lone<'_> {
         }
         for number in 0..endpoints {
             let name = names::numbered(number);
-            let outcome = self.session.play(Record::Register(&name));
+            let mut outcome = self.session.play(Record::Register(&name));
+            // Tiny rings are full before all are registered.
+            if outcome.number == Refusal::Full as u32 {
+                self.read_all();
+                outcome = self.session.play(Record::Register(&name));
+            }
             if self.random.one_in(8) {
                 continue;
             }

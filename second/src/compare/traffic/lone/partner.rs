@@ -18,7 +18,7 @@ impl Lone<'_> {
     }
 
     /// Puts header and content where the partner would.
-    fn message(&mut self, block: u8, k: u32, content: &[u8]) {
+    pub fn message(&mut self, block: u8, k: u32, content: &[u8]) {
         let Some(open) = self.session.state() else {
             return;
         };
@@ -27,12 +27,29 @@ impl Lone<'_> {
         self.session.write(Slice::Receive, offset, &bytes);
     }
 
+    /// The partner has pulled all that was pushed.
+    pub fn read_all(&mut self) {
+        if let Some(open) = self.session.state() {
+            self.write_read_index(open.write_index);
+        }
+    }
+
+    /// Puts the partner's index on the transmit ring.
+    pub fn write_read_index(&mut self, index: u32) {
+        let Some(open) = self.session.state() else {
+            return;
+        };
+        let offset = open.transmit.read_index_place().start;
+        self.session
+            .write(Slice::Transmit, offset, &index.to_le_bytes());
+    }
+
     pub fn arrival(&mut self, control: &[u8]) {
         self.session.play(Record::Arrival(control));
     }
 
     /// A control message of known kind; further bytes do not count.
-    fn control(&mut self, kind: ControlKind, address: u8, block: u8) {
+    pub fn control(&mut self, kind: ControlKind, address: u8, block: u8) {
         let mut control = vec![kind as u8, address, block];
         if self.random.one_in(4) {
             let more = self.random.between(1, 6) as usize;
@@ -53,9 +70,7 @@ pub fn reads(lone: &mut Lone) {
     } else {
         hostile_index(lone.random, Place::of(&open.transmit), open.write_index)
     };
-    let place = open.transmit.read_index_place();
-    lone.session
-        .write(Slice::Transmit, place.start, &index.to_le_bytes());
+    lone.write_read_index(index);
 }
 
 /// A packet as it should be, or nearly: reserved bytes and padding are free.

@@ -35,6 +35,22 @@ macro_rules! ends {
         BoundBeforeStart,
         /// 23 comes before 15 at send
         FitBeforeBound,
+        /// 10 comes before 25 at send
+        FullBeforeReserved,
+        /// 10 comes before 15 at send
+        FullBeforeBound,
+        /// 10 comes before 23 at send
+        FullBeforeFit,
+        /// 10 comes before 20 at register
+        FullBeforeName,
+        /// 10 comes before 23 and 24 at register
+        FullBeforeRoom,
+        /// 10 comes before 25 at done
+        FullBeforeHeld,
+        /// 10 comes before 7 at send, register and done
+        FullBeforeIndex,
+        /// 25 comes before 6 at done
+        HeldBeforeLent,
 
         // Opening.
         /// The receive region is checked before the transmit region
@@ -237,6 +253,64 @@ macro_rules! ends {
         DoneOfStored,
         /// Done gives a delivery, not control bytes
         DoneGivesDelivery,
+
+        // Send, register and done where the ring refuses.
+        /// 10: a send frees the blocks beyond the need
+        FullTrims,
+        /// 10: a message counts as sent
+        FullSends,
+        /// 7: a message counts as sent
+        BadIndexSends,
+        /// 7 and 10: a send has written the header
+        HeaderBeforeRing,
+        /// 10: an endpoint is registered
+        FullRegisters,
+        /// 7: an endpoint is registered
+        BadIndexRegisters,
+        /// 10: a register takes the blocks of its binding
+        FullHoldsBinding,
+        /// 7 and 10: a register has written its binding
+        BindingBeforeRing,
+        /// 10: a register forgets the stored binding
+        FullForgetsStored,
+        /// 7: a register forgets the stored binding
+        BadIndexForgetsStored,
+        /// 10: a done forgets the message
+        FullForgets,
+        /// 7: a done forgets the message
+        BadIndexForgets,
+        /// 7 and 10: a send gives its control bytes all the same
+        RefusedSendGives,
+        /// 7 and 10: a register that waits looks at the ring
+        WaitingLooks,
+        /// 7: send, register and done do not look at the partner's index
+        IndexUnseen,
+        /// 10: send, register and done push over what is unread
+        FullUnseen,
+
+        // What send, register and done push.
+        /// Send pushes nothing
+        SendUnpushed,
+        /// An initiator's register pushes nothing
+        BindingUnpushed,
+        /// A follower's register pushes nothing for a stored binding
+        TakingUnpushed,
+        /// Done pushes nothing
+        DoneUnpushed,
+        /// Send, register and done push twice
+        ToldTwice,
+        /// Send, register and done write their new index out, and do not keep it
+        ToldKeepsOwnIndex,
+        /// Send, register and done do not write their new index out
+        ToldUnwritten,
+        /// Done pushes address 1, and gives address 0
+        DonePushesOne,
+        /// 6: done takes any transmit slice, and pushes beside a wrong one
+        DoneLentAnything,
+        /// A register that waits pushes control bytes
+        WaitingPushes,
+        /// The reply to an arriving binding is pushed, too
+        ReplyPushed,
 
         // Scripts.
         /// A body longer than its kind has is accepted
