@@ -101,7 +101,10 @@ fn bound(fresh: End, tx: &mut [u8], rx: &[u8]) -> End {
         tx,
         &name,
     );
-    end = registered.applied(end);
+    let called = registered.called;
+    let waiting = called.endpoint;
+    end.endpoints = waiting.applied(end.endpoints);
+    end.numbers.write = registered.write;
     let message = [3u8, 0, 0];
     let released = End::arrival(
         end.numbers,
@@ -111,18 +114,16 @@ fn bound(fresh: End, tx: &mut [u8], rx: &[u8]) -> End {
         rx,
         &message,
     );
-    released.applied(end)
+    let bound = released.endpoint;
+    end.endpoints = bound.applied(end.endpoints);
+    end
 }
 
 // The partner takes off all that is pushed: it writes its read index. Else the ring would be full after some rounds.
 fn take_off(n: Numbers, tx: &mut [u8]) {
     let at = n.tx.ring_offset as usize;
-    let write = n.write;
     if at + 4 <= tx.len() {
-        tx[at] = (write % 256) as u8;
-        tx[at + 1] = (write / 256 % 256) as u8;
-        tx[at + 2] = (write / 65536 % 256) as u8;
-        tx[at + 3] = (write / 16777216 % 256) as u8;
+        wire::write_u32(tx, at, n.write);
     }
 }
 
