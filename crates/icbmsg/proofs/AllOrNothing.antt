@@ -1,16 +1,14 @@
 -- All or nothing: a rule's control message is pushed with what the rule does, or nothing is done. And what is asked of the ring then.
-use Prim.Native.Nat.{ℕ, _≤_}
-use mathlib.Core.Bool.{Bool, true, false}
-use mathlib.Core.Path.{_≡_, refl, sym, ap, subst, _∙_}
+use Prim.Native.Nat.{ℕ}
+use mathlib.Core.Path.{_≡_, refl, ap, subst, _∙_}
 use mathlib.Core.List.{List, [], _∷_}
 use native.Mathlib.Omega.{arith}
 use lib.ListN.{length}
 use Rattle.wire.specs.Choice.{pick}
-use Rattle.wire.specs.Reads.{gives, answer}
+use Rattle.wire.specs.Reads.{answer}
 use Rattle.wire.proofs.Trees.{answer-unless, answer-andThen}
 use Rattle.icmsg.specs.Rules.{Answer, refused as ringNo, accepted as ringYes, dropped as ringDropped, Outcome as RingOutcome, pushRule as ringPush}
 use Rattle.icmsg.specs.Laws.{PlainAt}
-use Rattle.icmsg.specs.declared.Ring.{Ring}
 use Rattle.icmsg.proofs.Indexes.{refusals}
 use Rattle.icmsg.proofs.PushReads.{push-reads-the-index}
 use Rattle.icbmsg.specs.Outcome.{Given, nothing, aLength, dropped, aRun, control, delivery, Outcome, ringRefused}
@@ -54,20 +52,6 @@ all-or-nothing e tx o = go (o .given) refl
         let p : RingOutcome = ringPush tx (txRing e) (e .write) c in
         rw (handed-answer e tx o k a b) (handed e tx o c p (p .answer) (rw q) refl refl (refusals .push tx (txRing e) (e .write) c))
     go (delivery a b k) q = nothing-to-push (rw q)
-
--- ---- a rule with nothing to push
-
-pub quiet : (e : End) (n : ℕ) (o : Outcome) → contents (o .given) ≡ [] → allOrNothing e n o ≡ gives o
-unfolding allOrNothing
-quiet e n o = go (o .given)
-  where
-    go : (g : Given) → contents g ≡ [] → pushing e n o g ≡ gives o
-    go nothing q = refl
-    go (aLength k) q = refl
-    go (dropped m) q = refl
-    go (aRun s m) q = refl
-    go (control k a b) q = absurd (omega (arith, ap length q))
-    go (delivery a b k) q = refl
 
 -- no list is empty and is not
 pub not-both : {A : Type 0} {x : A} {xs : List A} → [] ≡ x ∷ xs → ⊥

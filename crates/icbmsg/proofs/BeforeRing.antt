@@ -1,17 +1,16 @@
 -- What send, done and register leave to the ring: each rule as far as the push of its control message.
-use Prim.Native.Nat.{ℕ, _+_, _*_, _%_, _≤_, _<_}
-use mathlib.Core.Bool.{Bool, true, false, not}
+use Prim.Native.Nat.{ℕ, _+_, _*_, _%_, _≤_}
+use mathlib.Core.Bool.{true, false, not}
 use mathlib.Core.Path.{_≡_, refl, sym}
 use mathlib.Core.List.{List, [], _∷_, _++_}
 use native.Mathlib.Omega.{arith}
-use lib.Dec.{leb, ltb, eqb}
+use lib.Dec.{leb, eqb}
 use lib.ListN.{length}
-use borrow.Author.Tests.{leb-true, ltb-true, eqb-true}
-use Rattle.wire.specs.Choice.{pick}
+use borrow.Author.Tests.{leb-true, eqb-true}
 use Rattle.wire.specs.Bytes.{littleEndian, straight, writes, Within}
 use Rattle.wire.proofs.Choices.{both}
 use Rattle.wire.proofs.Positions.{within-straight}
-use Rattle.icmsg.specs.Ring.{dataAt, inRule, isSound}
+use Rattle.icmsg.specs.Ring.{dataAt, isSound}
 use Rattle.icmsg.specs.Laws.{Sound}
 use Rattle.icmsg.specs.Reading.{isOneOf}
 use Rattle.icmsg.specs.Unread.{Small, Beside}
@@ -21,12 +20,12 @@ use Rattle.blocks.specs.Search.{Search, nowhere, foundAt}
 use Rattle.blocks.specs.Tables.{entry, starts, startsData, freeRun}
 use Rattle.blocks.specs.declared.Use.the-variants.{Reserved}
 use Rattle.blocks.proofs.Tables.{every}
-use Rattle.endpoints.specs.Endpoints.{at, isUnused, boundAt, registered, holds, endpointAt, bindingAt, someEndpoint, unusedFrom, goodName}
+use Rattle.endpoints.specs.Endpoints.{at, isUnused, boundAt, registered, holds, endpointAt, bindingAt, someEndpoint, goodName}
 use Rattle.icbmsg.specs.Outcome.{Outcome, refused}
 use Rattle.icbmsg.specs.Ends.{blockAt, soundEnd, isOpen, whole, changed}
 use Rattle.icbmsg.specs.Rings.{txRing}
 use Rattle.icbmsg.specs.Messages.{need, sendOf, doneOf}
-use Rattle.icbmsg.specs.Registering.{announcement, followed, initiates, registerOf}
+use Rattle.icbmsg.specs.Registering.{followed, initiates, registerOf}
 use Rattle.icbmsg.specs.Pushing.{contents}
 use Rattle.icbmsg.specs.End.{End}
 use Rattle.icbmsg.proofs.Claims.{Claim, past, past-found, past-picked}

@@ -8,7 +8,6 @@ use lib.Dec.{leb, ltb, eqb}
 use lib.ListN.{length}
 use Rattle.wire.specs.Choice.{pick}
 use Rattle.wire.specs.Reads.{answer}
-use Rattle.icmsg.specs.Ring.{inRule}
 use Rattle.icmsg.specs.Rules.{Answer, refused as ringNo, accepted as ringYes, dropped as ringDropped, Outcome as RingOutcome, pushRule as ringPush, startRule as ringStart}
 use Rattle.blocks.specs.Names.{Name, endless, name, nameIn}
 use Rattle.blocks.specs.Search.{Search, nowhere, foundAt, isFound}
@@ -16,7 +15,7 @@ use Rattle.blocks.specs.Tables.{entry, starts, startsData, blocksFor, freeRun}
 use Rattle.blocks.specs.declared.Use.the-variants.{Reserved, SentData, SentBinding}
 use Rattle.endpoints.specs.Endpoints.{at, isUnused, boundAt, registered, waitingFor, holds, clashes, clashesStored, endpointAt, bindingAt, someEndpoint, someBinding, goodName}
 use Rattle.icbmsg.specs.Outcome.{Given, nothing, aLength, dropped, aRun, control, delivery, Outcome, ringRefused, withoutPlace, check, guard}
-use Rattle.icbmsg.specs.Ends.{isOpen, whole, foundOr, changed, withRead}
+use Rattle.icbmsg.specs.Ends.{isOpen, foundOr, changed, withRead}
 use Rattle.icbmsg.specs.Rings.{txRing, pushOutcome, startOf, handedOn, pushing, allOrNothing}
 use Rattle.icbmsg.specs.Messages.{need, reserveOf, roomOf, sendOf, dropOf, viewOf, doneOf, roomQuestion, viewQuestion}
 use Rattle.icbmsg.specs.Registering.{followed, initiates, registerOf}

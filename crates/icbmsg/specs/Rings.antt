@@ -1,7 +1,6 @@
 -- The rules of the calls on the rings: start, push and pull (docs/RULES.md, R). And how a rule pushes what comes with its answer.
 use Prim.Native.Nat.{ℕ}
 use mathlib.Core.List.{List, [], _∷_, _++_}
-use lib.ListN.{length}
 use Rattle.wire.specs.Choice.{pick}
 use Rattle.wire.specs.Reads.{gives, unless, andThen}
 use Rattle.icmsg.specs.Rules.{Outcome as RingOutcome, Answer, refused as ringNo, accepted as ringYes, dropped as ringDropped, pushTree as ringPush, startRule as ringStart, pullRule as ringPull}

@@ -1,6 +1,5 @@
 -- Send, done and register: what the code's ring has made of a control message, and the rule behind the ring.
-use Prim.Native.Nat.{ℕ, _+_, _≤_, _<_}
-use mathlib.Core.Bool.{Bool, true, false}
+use Prim.Native.Nat.{ℕ, _+_, _≤_}
 use mathlib.Core.Path.{_≡_, refl, sym, ap, _∙_}
 use mathlib.Core.List.{List, [], _∷_, _++_}
 use native.Mathlib.Omega.{arith}
@@ -16,7 +15,7 @@ use Rattle.icmsg.specs.declared.Ring.{Ring}
 use Rattle.icmsg.proofs.Indexes.{refusals}
 use Rattle.endpoints.specs.declared.Endpoint.{Endpoint}
 use Rattle.endpoints.specs.declared.Binding.{Binding}
-use Rattle.icbmsg.specs.Outcome.{Given, nothing, control, Outcome, refused, accepted, written, withoutWrites}
+use Rattle.icbmsg.specs.Outcome.{nothing, control, Outcome, refused, accepted, written, withoutWrites}
 use Rattle.icbmsg.specs.Ends.{changed, withWrite}
 use Rattle.icbmsg.specs.Rings.{ringOf, handedOn, withPacket, allOrNothing}
 use Rattle.icbmsg.specs.declared.Numbers.{Numbers}

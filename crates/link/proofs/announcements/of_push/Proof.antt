@@ -1,5 +1,4 @@
 use mathlib.Core.Path.{refl}
-use Rattle.icmsg.specs.Rules.{answerOf}
 use borrow.Author.Needs.{needs}
 use Rattle.link.proofs.announcements.of_push.Statement.{statement}
 use Rattle.link.proofs.announcements.of_push.Tie as tie

@@ -1,4 +1,4 @@
-use mathlib.Core.Path.{_≡_, ap, _∙_}
+use mathlib.Core.Path.{ap, _∙_}
 use denote.Ref.{now}
 use Rattle.wire.specs.Bytes.{wrote}
 use Rattle.icmsg.specs.Rules.{Outcome as RingOutcome, pushRule as ringPush}
