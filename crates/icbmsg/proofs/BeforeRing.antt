@@ -55,17 +55,18 @@ ring-sound e n w = sound-test n (txRing e) (e .write) (ring-lies e n w .sound)
 
 -- ---- the claim
 
--- Its number is none of the ring's. With a control message the transmit region is lent whole; without one nothing is written to it. What is
--- written leaves the ring alone, and so does the own index.
+-- Its number is none of the ring's. With a control message it accepts, and the transmit region is lent whole; without one nothing is written to
+-- that. What is written leaves the ring alone, and the own index stays.
 pub record BeforeRing (e : End) (n : ℕ) (o : Outcome) : Type 0 where
   pub number : isOneOf (o .number) (7 ∷ 10 ∷ []) ≡ false
+  pub accepts : (c : List ℕ) → contents (o .given) ≡ c ∷ [] → o .number ≡ 0
   pub lent : (c : List ℕ) → contents (o .given) ≡ c ∷ [] → whole e (e .tx) n ≡ true
   pub quiet : contents (o .given) ≡ [] → o .tx ≡ []
   pub beside : Beside (txRing e) (o .tx)
   pub index : o .next .write ≡ e .write
 
 no : (e : End) (n m : ℕ) → isOneOf m (7 ∷ 10 ∷ []) ≡ false → BeforeRing e n (refused e m)
-no e n m h = record { number = h; lent = λ c q. absurd (not-both q); quiet = λ _. refl; beside = tt; index = refl }
+no e n m h = record { number = h; accepts = λ c q. absurd (not-both q); lent = λ c q. absurd (not-both q); quiet = λ _. refl; beside = tt; index = refl }
 
 -- bytes written from p on, behind the ring
 within-beside : (g : Ring) (b n : ℕ) (ws : List (ℕ × ℕ)) → dataAt g + g .«data_length» ≤ b → Within b n ws → Beside g ws
@@ -87,6 +88,7 @@ send-before e n s a k =
     record {
       holds = record {
         number = refl;
+        accepts = λ _ _. refl;
         lent = λ _ _. w;
         quiet = λ q. absurd (not-both (sym q));
         beside = beside-straight (txRing e) (blockAt (e .tx) s) (littleEndian 4 k) (omega (arith, ring-lies e n w .before-blocks));
@@ -99,7 +101,7 @@ unfolding doneOf changed
 done-before e n s =
     past e (whole e (e .tx) n) 6 (no e n 6 refl) λ w.
     past e (startsData (e .rx .«block_count») (e .rx .«block_size») (e .held) s) 25 (no e n 25 refl) λ _.
-    record { holds = record { number = refl; lent = λ _ _. w; quiet = λ _. refl; beside = tt; index = refl } }
+    record { holds = record { number = refl; accepts = λ _ _. refl; lent = λ _ _. w; quiet = λ _. refl; beside = tt; index = refl } }
 
 initiates-before : (e : End) (l : ℕ) (n : List ℕ) (i : ℕ) → whole e (e .tx) l ≡ true → Claim (BeforeRing e l) (initiates e n i)
 unfolding initiates changed
@@ -109,6 +111,7 @@ initiates-before e l n i w =
     record {
       holds = record {
         number = refl;
+        accepts = λ _ _. refl;
         lent = λ _ _. w;
         quiet = λ q. absurd (not-both (sym q));
         beside = beside-straight (txRing e) (blockAt (e .tx) s) (littleEndian 4 (length n + 1) ++ n ++ (0 ∷ [])) (omega (arith, ring-lies e l w .before-blocks));
@@ -118,8 +121,8 @@ initiates-before e l n i w =
 
 followed-before : (e : End) (l : ℕ) (n : List ℕ) (i : ℕ) (q : Search) → whole e (e .tx) l ≡ true → Claim (BeforeRing e l) (followed e n i q)
 unfolding changed
-followed-before e l n i nowhere w = record { holds = record { number = refl; lent = λ _ _. w; quiet = λ _. refl; beside = tt; index = refl } }
-followed-before e l n i (foundAt j) w = record { holds = record { number = refl; lent = λ _ _. w; quiet = λ _. refl; beside = tt; index = refl } }
+followed-before e l n i nowhere w = record { holds = record { number = refl; accepts = λ _ _. refl; lent = λ _ _. w; quiet = λ _. refl; beside = tt; index = refl } }
+followed-before e l n i (foundAt j) w = record { holds = record { number = refl; accepts = λ _ _. refl; lent = λ _ _. w; quiet = λ _. refl; beside = tt; index = refl } }
 
 pub register-before : (e : End) (l : ℕ) (n : List ℕ) → Claim (BeforeRing e l) (registerOf e l n)
 unfolding registerOf

@@ -36,7 +36,7 @@ use Rattle.icbmsg.specs.Theorems.{Reached, called}
 use Rattle.icbmsg.specs.Names.{endpointOf, isUsed, IsAnnounced}
 use Rattle.icbmsg.specs.Completion.{completes, isRelease, arrives, arrived, someArrived, IsBoundTo, Registration, bindingRun, BindingCompletes, DataReaches}
 use Rattle.icbmsg.specs.End.{End}
-use Rattle.icbmsg.specs.Pushing.{Pushed, nothing-to-push, not-pushed, is-pushed}
+use Rattle.icbmsg.specs.Pushing.{PushedOrNot, nothing-to-push, not-pushed, is-pushed}
 use Rattle.icbmsg.proofs.AllOrNothing.{all-or-nothing}
 use Rattle.icbmsg.proofs.Claims.{Claim, past, past-found}
 use Rattle.icbmsg.proofs.ArrivingBytes.{withName, bound-flat, data-flat}
@@ -122,7 +122,7 @@ module _ {e : End} (w : Separate e) (n : List ℕ) (a s : ℕ) where
       go false i r o l = was-followed i (bindingAt (holds (e .rx .«block_count») n) (e .bindings))
 
 -- and behind the ring
-pushed-announces : {e : End} {tx n : List ℕ} {a s : ℕ} {o o′ : Outcome} → Pushed e tx o o′ → Announces e n a s o → Announces e n a s o′
+pushed-announces : {e : End} {tx n : List ℕ} {a s : ℕ} {o o′ : Outcome} → PushedOrNot e tx o o′ → Announces e n a s o → Announces e n a s o′
 unfolding changed
 pushed-announces (nothing-to-push q) k h = k h
 pushed-announces (not-pushed c m q r l) k h = absurd (nothing≢control h)

@@ -38,7 +38,7 @@ use Rattle.icbmsg.specs.Places.{InMessage, PartIn}
 use Rattle.blocks.proofs.LeastBlocks.{blocks-hold, blocks-least, blocks-one}
 use Rattle.blocks.proofs.Search.{first-at, lowest-at}
 use Rattle.blocks.proofs.Tables.{run-of, live, data-run, Each, every}
-use Rattle.icbmsg.specs.Pushing.{Pushed, nothing-to-push, not-pushed, is-pushed}
+use Rattle.icbmsg.specs.Pushing.{PushedOrNot, nothing-to-push, not-pushed, is-pushed}
 use Rattle.icbmsg.proofs.AllOrNothing.{push-answer, all-or-nothing, not-both}
 use Rattle.icbmsg.proofs.RulesRead.{pull-answer}
 use Rattle.icbmsg.proofs.ArrivingBytes.{withName, bound-flat, data-flat}
@@ -202,7 +202,7 @@ push-effect e tx c =
     (refusals .push tx g (e .write) c) (λ k i h. indexes-in-rule .push tx g (e .write) c k i h))
 
 -- what is true of a rule before the ring is true behind it
-pushed-effect : {e : End} {f : Given → RunChange} {tx : List ℕ} {o o′ : Outcome} → Pushed e tx o o′ → Effect f e no-part o → Effect f e no-part o′
+pushed-effect : {e : End} {f : Given → RunChange} {tx : List ℕ} {o o′ : Outcome} → PushedOrNot e tx o o′ → Effect f e no-part o → Effect f e no-part o′
 pushed-effect (nothing-to-push q) h = h
 pushed-effect (not-pushed c n q r l) h = refuses n (le-leb 1 n l)
 pushed-effect (is-pushed c k i q r) (refuses n l) = absurd (not-both q)

@@ -18,6 +18,7 @@ pub mod Once
 pub mod Names
 pub mod Completion
 pub mod Writes
+pub mod RingLast
 pub mod RingAfter
 pub mod ReadApart
 pub mod NewerPartner

@@ -39,7 +39,7 @@ use Rattle.blocks.proofs.LeastBlocks.{blocks-least, blocks-one}
 use Rattle.blocks.proofs.Tables.{every, use-is, Taken, its-first, its-later, apart, Freed, gone, free-at, first-entry, freed-live, freed-stays, freed-view, freed-free, taken-stays, taken-view, free-law}
 use Rattle.icbmsg.proofs.ArrivingBytes.{withName, bound-flat, data-flat}
 use Rattle.blocks.specs.Names.{Name, endless, name, nameIn, paddedName}
-use Rattle.icbmsg.specs.Pushing.{Pushed, nothing-to-push, not-pushed, is-pushed}
+use Rattle.icbmsg.specs.Pushing.{PushedOrNot, nothing-to-push, not-pushed, is-pushed}
 use Rattle.icbmsg.proofs.AllOrNothing.{push-answer, all-or-nothing}
 use Rattle.icbmsg.proofs.RulesRead.{pull-answer}
 use Rattle.blocks.proofs.Search.{first-at, lowest-at}
@@ -406,7 +406,7 @@ module _ {e : End} (w : Separate e) (v : InvOf e) where
   pull-good false ws bs a = idle v refl refl
 
   -- what is good before the ring is good behind it
-  pushed-good : {tx : List ℕ} {o o′ : Outcome} → Pushed e tx o o′ → Good e silent o → Good e silent o′
+  pushed-good : {tx : List ℕ} {o o′ : Outcome} → PushedOrNot e tx o o′ → Good e silent o → Good e silent o′
   unfolding changed
   pushed-good (nothing-to-push q) g = g
   pushed-good (not-pushed c n q r l) g = refusal-good n (le-leb 1 n l)

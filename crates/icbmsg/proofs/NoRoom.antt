@@ -23,7 +23,7 @@ use Rattle.icbmsg.specs.Messages.{need, reserving, reservation, reserveO
 use Rattle.icbmsg.specs.Registering.{announcement, followed, initiates, registerOf}
 use Rattle.icbmsg.specs.Calls.{reserve, register, rule, readFrom, step}
 use Rattle.icbmsg.specs.Theorems.{FreeRun, Crowded, Reserves, too-long, no-room, at-lowest, Registers, NeedLeast, ReserveSays, NoRoom}
-use Rattle.icbmsg.specs.Pushing.{Pushed, nothing-to-push, not-pushed, is-pushed}
+use Rattle.icbmsg.specs.Pushing.{PushedOrNot, nothing-to-push, not-pushed, is-pushed}
 use Rattle.icbmsg.specs.End.{End}
 use Rattle.icbmsg.proofs.AllOrNothing.{all-or-nothing}
 use Rattle.icbmsg.proofs.Claims.{Claim, past, past-found}
@@ -127,7 +127,7 @@ register-24 e tx n =
     go false i r k o = follower-not e n i (bindingAt (holds (e .rx .«block_count») n) (e .bindings))
 
 -- the ring never answers 24
-pushed-tells : {A : Type 0} {e : End} {tx : List ℕ} {o o′ : Outcome} → Pushed e tx o o′ → Tells A o → Tells A o′
+pushed-tells : {A : Type 0} {e : End} {tx : List ℕ} {o o′ : Outcome} → PushedOrNot e tx o o′ → Tells A o → Tells A o′
 pushed-tells (nothing-to-push q) k h = k h
 pushed-tells {e = e} {tx = tx} (not-pushed c n q r l) k h = absurd (omega (arith, push-refused-low tx (txRing e) (e .write) c n r, h))
 pushed-tells (is-pushed c m i q r) k h = k h

@@ -15,6 +15,7 @@ use Rattle.icbmsg.proofs.Writes.{writes-stay-inside}
 use Rattle.icbmsg.proofs.Refusals.{refusals, numbers-stay, open-stays, open-after}
 use Rattle.icbmsg.proofs.ClosedEnds.{closed-six}
 use Rattle.icbmsg.proofs.AllOrNothing.{all-or-nothing}
+use Rattle.icbmsg.proofs.RingLast.{ring-last}
 use Rattle.icbmsg.proofs.RingAfter.{ring-after}
 use Rattle.icbmsg.proofs.ReadApart.{read-apart}
 use Rattle.icbmsg.proofs.Ledger.{by-history}
@@ -52,6 +53,7 @@ promises =
       never-jams = never-jams;
       ring-writes = writes-inside;
       all-or-nothing = all-or-nothing;
+      ring-last = ring-last;
       ring-after = ring-after;
       by-history = by-history;
       nothing-added = nothing-added;

@@ -16,7 +16,7 @@ use Rattle.icbmsg.specs.Calls.{Call, rule, readFrom, step}
 use Rattle.blocks.specs.WellFormed.{IsFree, Live, InRun, WellFormed}
 use Rattle.icbmsg.specs.WellFormed.{heldRun, bindingOf, Stored, Separate}
 use Rattle.icbmsg.specs.Theorems.{Part, called, Touched, RunsStay, SendTrims}
-use Rattle.icbmsg.specs.Pushing.{Pushed, nothing-to-push, not-pushed, is-pushed}
+use Rattle.icbmsg.specs.Pushing.{PushedOrNot, nothing-to-push, not-pushed, is-pushed}
 use Rattle.icbmsg.proofs.AllOrNothing.{all-or-nothing}
 use Rattle.icbmsg.specs.Ledger.{Side, transmit, receive, table, RunChange, no-change, takes, trims, frees, runChange}
 use Rattle.blocks.proofs.Tables.{clash, Relation, below, first, later, above, relation, one-run, Taken, its-first, its-later, apart, Freed, gone, free-at, freed-view, first-entry, taken-view, free-law, live, run-of}
@@ -171,7 +171,7 @@ send-trimmed e w n s a k =
     record { trims-to = λ _. (m, first-entry (taken-view (free-law (w .sent) few s l) few SentData s (blocksFor (e .tx .«block_size») k) a k one (omega (arith, r .ends)) s) one) }
 
 -- and behind the ring
-pushed-trims : {e : End} {tx : List ℕ} {s a k : ℕ} {o o′ : Outcome} → Pushed e tx o o′ → Trims e s a k o → Trims e s a k o′
+pushed-trims : {e : End} {tx : List ℕ} {s a k : ℕ} {o o′ : Outcome} → PushedOrNot e tx o o′ → Trims e s a k o → Trims e s a k o′
 unfolding changed
 pushed-trims (nothing-to-push q) t = t
 pushed-trims (not-pushed c n q r l) t = record { trims-to = λ h. absurd (omega arith) }

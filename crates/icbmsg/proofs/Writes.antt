@@ -36,7 +36,7 @@ use Rattle.icbmsg.specs.declared.Control.the-variants.{TooShort, Unknown
 use Rattle.icbmsg.specs.Calls.{start, push, pull, reserve, room, send, drop, arrival, view, done, register, askRoom, askView, rule, lent, readFrom, step}
 use Rattle.icbmsg.specs.Places.{Area, no-area, tx-ring, rx-ring, a-packet, run-and-packet, registerArea, InRunAt, areaOf, InArea, WritesIn, WritesInside}
 use Rattle.icbmsg.specs.End.{End}
-use Rattle.icbmsg.specs.Pushing.{contents, Pushed, nothing-to-push, not-pushed, is-pushed}
+use Rattle.icbmsg.specs.Pushing.{contents, PushedOrNot, nothing-to-push, not-pushed, is-pushed}
 use Rattle.icbmsg.proofs.Claims.{Claim, past, past-found, past-picked}
 use Rattle.icbmsg.proofs.AllOrNothing.{push-answer, all-or-nothing, not-both}
 use Rattle.icbmsg.proofs.RulesRead.{pull-answer, answer-guard}
@@ -131,7 +131,7 @@ packet-area e rx-ring ts ws p h k = absurd p
 packet-area e a-packet ts ws p h k = rw h (k, refl)
 packet-area e (run-and-packet s n) ts ws p h k = (record { message = ts; packet = ws; all = refl; in-run = h; on-ring = k }, refl)
 
-pushed-in : {e : End} {f : Given → Area} {tx : List ℕ} {o o′ : Outcome} → Pushed e tx o o′ → BlocksIn e f (length tx) o → WritesIn e f (length tx) 0 0 o′
+pushed-in : {e : End} {f : Given → Area} {tx : List ℕ} {o o′ : Outcome} → PushedOrNot e tx o o′ → BlocksIn e f (length tx) o → WritesIn e f (length tx) 0 0 o′
 pushed-in {e} {f} {o = o} (nothing-to-push q) h = record { area = rw (h .rx) (blocks-area e (f (o .given)) (o .tx) (h .area)); tx = h .tx; rx = rw (h .rx) tt; buffer = rw (h .buffer) tt }
 pushed-in (not-pushed c n q r l) h = quiet
 pushed-in {e} {f} {tx = tx} {o = o} (is-pushed c k i q r) h =

@@ -7,7 +7,7 @@ use Rattle.icbmsg.specs.Reading.{RulesRead}
 use Rattle.icbmsg.specs.Ledger.{ByHistory}
 use Rattle.icbmsg.specs.Theorems.{Refusals, NumbersStay, OpenStays, ClosedSix, OpenExactly, Separated, RunsDisjoint, BlocksCovered, RunsStay, SendTrims, NothingAdded, AddressLowest, NeedLeast, ReserveSays, NoRoom}
 use Rattle.icbmsg.specs.Places.{PartsInside, PartsApart, WritesInside}
-use Rattle.icbmsg.specs.Pushing.{AllOrNothing, RingAfter, ReadApart}
+use Rattle.icbmsg.specs.Pushing.{AllOrNothing, RingLast, RingAfter, ReadApart}
 use Rattle.icbmsg.specs.Names.{NamesKept}
 use Rattle.icbmsg.specs.Completion.{BindingCompletes, DataReaches}
 use Rattle.icbmsg.specs.NewerPartner.{NewerPartner}
@@ -39,6 +39,7 @@ pub record Promises : Type 0 where
   pub never-jams : Ring.NeverJams
   pub ring-writes : Ring.WritesInside
   pub all-or-nothing : AllOrNothing
+  pub ring-last : RingLast
   pub ring-after : RingAfter
   pub by-history : ByHistory
   pub nothing-added : NothingAdded

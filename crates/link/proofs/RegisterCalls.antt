@@ -37,13 +37,13 @@ use Rattle.checks.specs.declared.Space.{Space}
 use Rattle.checks.proofs.OpenSays.{Sound, is-open, open-says, run-inside, whole-says}
 use Rattle.checks.proofs.Runs.{fit-at}
 use Rattle.link.specs.Answers.{writing, registeredOf}
-use Rattle.link.specs.Parts.{SaysNothing, behindRing}
+use Rattle.link.specs.Parts.{RefusesRegistration, behindRing}
 use Rattle.link.specs.declared.Answer.the-variants.{Refused}
 use Rattle.link.specs.declared.Registered.{Registered}
 use Rattle.link.proofs.ArrivalCalls.{called-only}
 
 -- a refused registration
-pub refused-only : (r : Registered) (n : Numbers) (t : List ℕ) (ps : List Endpoint) (bs : List Binding) (x : Refusal) → SaysNothing r n x → registeredOf r n t ps bs ≡ refused (joined n t ps bs) (numberOf x)
+pub refused-only : (r : Registered) (n : Numbers) (t : List ℕ) (ps : List Endpoint) (bs : List Binding) (x : Refusal) → RefusesRegistration r n x → registeredOf r n t ps bs ≡ refused (joined n t ps bs) (numberOf x)
 refused-only r n t ps bs x h = called-only (r .called) (Refused x) (writing n (r .write)) t ps bs (h .only) ∙ rw (h .write)
 
 -- what the numbers of an open end say of the transmit region, and of the receive region

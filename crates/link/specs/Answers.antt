@@ -72,8 +72,8 @@ applied c e =
     }
 
 -- and with the own write index that a registration hands back
-abbrev pub registered : Registered → CodeEnd → CodeEnd
-registered c e =
+abbrev pub registeredTo : Registered → CodeEnd → CodeEnd
+registeredTo c e =
     record {
       numbers = writing (e .numbers) (c .write);
       tables = e .tables;

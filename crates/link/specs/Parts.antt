@@ -66,7 +66,7 @@ PartOf f n t s r = (ps : List Endpoint) (bs : List Binding) → let o = f (joine
 abbrev pub BeginsAt : (End → Outcome) → Numbers → List ℕ → ℕ → ℕ → Type 0
 BeginsAt f n t q q′ = (ps : List Endpoint) (bs : List Binding) → q′ ≡ q + f (joined n t ps bs) .begin
 
--- ---- on the way: a control message on the transmit ring
+-- ---- a control message on the transmit ring
 
 -- what the ring answered
 abbrev pub HandedAs : Handed → RingAnswer → Type 0
@@ -96,12 +96,12 @@ pub record SaysOnly (r : Called) (a : Answer) : Type 0 where
 abbrev pub ChangesEndpoints : (End → Outcome) → Numbers → List ℕ → List Endpoint → Called → List ℕ → Type 0
 ChangesEndpoints f n t ps r t′ = (bs : List Binding) → calledOf r n t′ ps bs ≡ f (joined n t ps bs)
 
--- a refused registration
-pub record SaysNothing (r : Registered) (n : Numbers) (x : Refusal) : Type 0 where
+-- a refused registration: nothing changes, and the own write index is as it was
+pub record RefusesRegistration (r : Registered) (n : Numbers) (x : Refusal) : Type 0 where
   pub only : SaysOnly (r .called) (Refused x)
   pub write : r .write ≡ n .write
 
--- a rule f and its push, with transmit bytes s lent, which are s′ then
+-- what a rule gives, and its push, with transmit bytes s lent
 abbrev pub behindRing : End → List ℕ → Outcome → Outcome
 behindRing e s o = answer (allOrNothing e (length s) o) s
 

@@ -10,7 +10,7 @@ mod registrations;
 mod rings;
 
 ghost use mathlib.Core.Path.{_≡_};
-ghost use Rattle.link.specs.Answers.{applied as appliedTo, registered as registeredTo};
+ghost use Rattle.link.specs.Answers.{applied as appliedTo, registeredTo};
 use endpoints::Binding;
 use endpoints::BindingChange;
 use endpoints::Endpoint;
@@ -51,7 +51,7 @@ pub enum Answer {
     Accepted,
     // A reservation: its first block, and how many.
     Run { start: u32, count: u32 },
-    // A control message, its three bytes: pushed already, but where it answers an arrival; then it is to be pushed.
+    // A control message, its three bytes: pushed already by send, register and done; of an arrival it is for the caller to push.
     Control { kind: u8, address: u8, block: u8 },
     // A data message that has arrived: its endpoint's address, its first block and its length.
     Delivered { address: u8, block: u8, length: u32 },

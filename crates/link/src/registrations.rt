@@ -13,7 +13,7 @@ ghost use Rattle.icbmsg.specs.Ends.{openNumbers};
 ghost use Rattle.icbmsg.specs.Registering.{initiates, registerRule};
 ghost use Rattle.checks.specs.Parts.{joined};
 ghost use Rattle.link.specs.Answers.{registeredOf};
-ghost use Rattle.link.specs.Parts.{SaysNothing, Registers, RegistersTx, Follows, FollowsTx, BindsStored, BindsStoredTx};
+ghost use Rattle.link.specs.Parts.{RefusesRegistration, Registers, RegistersTx, Follows, FollowsTx, BindsStored, BindsStoredTx};
 use crate::Answer;
 use crate::Called;
 use crate::End;
@@ -37,7 +37,7 @@ use refusal::Refusal;
 
 // A refusal pushes nothing.
 fn refused(n: Numbers, x: Refusal) -> Registered
-    ensures { λ r. ⌜ SaysNothing r n x ⌝ }
+    ensures { λ r. ⌜ RefusesRegistration r n x ⌝ }
 {
     Registered {
         called: called(Answer::Refused(x)),

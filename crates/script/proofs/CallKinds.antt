@@ -1,9 +1,9 @@
 -- The outcome of each kind of call, by the numbers that the code has read; and how long its body is.
 use Prim.Native.Nat.{ℕ, _≤_}
-use mathlib.Core.Bool.{Bool, true, false, _&&_, _||_, false≢true}
+use mathlib.Core.Bool.{Bool, true, false, _||_, false≢true}
 use mathlib.Core.Path.{_≡_, ap, _∙_}
 use mathlib.Core.List.{List}
-use lib.Dec.{leb, eqb}
+use lib.Dec.{eqb}
 use lib.ListN.{length, take}
 use borrow.Author.Tests.{leb-true, eqb-true, ne-eqb}
 use Rattle.wire.specs.Choice.{pick}

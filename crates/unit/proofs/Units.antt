@@ -1,7 +1,7 @@
 -- What holds of every unit and every call, and of what a list of calls leaves.
-use Prim.Native.Nat.{ℕ, zero, suc, _+_, _≤_}
-use mathlib.Core.Bool.{Bool, true, false, _&&_}
-use mathlib.Core.Path.{_≡_, refl, sym, ap, _∙_}
+use Prim.Native.Nat.{ℕ, zero, suc, _+_}
+use mathlib.Core.Bool.{Bool, true, false}
+use mathlib.Core.Path.{_≡_, refl, ap, _∙_}
 use mathlib.Core.Logic.{_≢_}
 use mathlib.Core.List.{List, [], _∷_}
 use native.Mathlib.Omega.{arith}
@@ -22,7 +22,7 @@ use Rattle.icmsg.proofs.Indexes.{refusals as ring-refusals, indexes-in-rule}
 use Rattle.icmsg.proofs.WritesInside.{writes-inside as ring-writes}
 use Rattle.unit.specs.Opening.{Opened, noRegion, openNumber, fresh, freshOf, closedWith, opening}
 use Rattle.unit.specs.Rules.{txRing, rxRing, lent, startOf, pushOf, receiveOf}
-use Rattle.unit.specs.Calls.{Call, start, push, receive, step, next, left, ringAt, lentBytes, bufferBytes}
+use Rattle.unit.specs.Calls.{Call, start, push, receive, step, next, left}
 use Rattle.unit.specs.Laws.{Refusals, isOpen, OpenExactly, Stands, OpenStands, ClosedSix, WritesInside}
 use Rattle.unit.specs.declared.Opening.{Opening}
 use Rattle.unit.specs.declared.Region.{Region}
