@@ -244,7 +244,7 @@ pub fn wait(ends: Ends) -> Ends {
         return ends;
     };
     let text = b"there?";
-    let ends = ends.send_from(start, text).empty_ring();
+    let ends = ends.send_from(start, text).arrive().empty_ring();
     ends.send_from(start, text).announce().finish()
 }
 

@@ -57,7 +57,7 @@ pub fn push(mut end: End, tx: &mut Memory, content: &[u8]) -> End {
     end
 }
 
-// Pushes packets of an unknown kind until the ring takes no more, and writes one line for them.
+// Pushes packets of an unknown kind, more than the ring takes, and writes one line for them, then the push that finds it full.
 pub fn fill_ring(mut end: End, tx: &mut Memory) -> End {
     let content = [0xFFu8; 3];
     for _ in 0..64u32 {
@@ -65,20 +65,18 @@ pub fn fill_ring(mut end: End, tx: &mut Memory) -> End {
         let numbers = called.numbers;
         end.numbers = numbers;
     }
-    texts::by(end.numbers, b"pushes ff ff ff until its ring is full").print();
-    end
+    texts::by(end.numbers, b"push ff ff ff, 64 times").print();
+    push(end, tx, &content)
 }
 
-// Takes what is on the ring off, each packet to its arrival, and writes one line for them.
+// Takes what is on the ring off, each packet to its arrival, and writes one line for them, then the pull that finds it empty.
 pub fn empty_ring(mut end: End, rx: &mut Memory) -> End {
     for _ in 0..64u32 {
         end = take_off(end, rx);
     }
-    texts::by(
-        end.numbers,
-        b"pulls all that is unread, which is of an unknown kind: 13",
-    ).print();
-    end
+    texts::by(end.numbers, b"pull and arrival, 64 times").print();
+    let pulled = pull(end, rx);
+    pulled.end
 }
 
 fn take_off(mut end: End, rx: &mut Memory) -> End {

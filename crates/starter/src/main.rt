@@ -75,7 +75,8 @@ fn register(core: Core, tx: &mut [u8], name: &[u8]) -> Core {
 }
 
 // Sends a text to the first endpoint: reserves blocks, fills their room, and sends, which pushes what announces the message. A text that is
-// too long for the region is refused.
+// too long for the region is refused. Where the ring is full, send is 10 and the reservation stays: a program keeps `start` and sends it again
+// once the other core has pulled, or gives it up with `End::drop`.
 fn send(core: Core, tx: &mut [u8], text: &[u8]) -> Core {
     if !core.going {
         return core;
@@ -162,12 +163,14 @@ fn arrive(mut end: End, tx: &mut [u8], rx: &[u8], packet: &[u8]) -> Core {
     }
 }
 
-// What an arriving binding answers is for the other core, and is pushed here. On a chip the doorbell is rung then.
+// What an arriving binding answers is for the other core, and is pushed here. On a chip the doorbell is rung then. Where the ring is full (10), a
+// program keeps the three bytes and pushes them later.
 fn reply(end: End, tx: &mut [u8], message: [u8; 3]) -> Core {
     ring_called(end, b"push", End::push(end.numbers, tx, &message))
 }
 
-// Reads a message where it lies. The other core gets its blocks back by what `done` pushes, and not before.
+// Reads a message where it lies. The other core gets its blocks back by what `done` pushes, and not before: where the ring is full (10), the
+// message stays held, and a program is done with it later.
 fn read(mut end: End, tx: &mut [u8], rx: &[u8], start: u32) -> Core {
     let text = End::view(end.numbers, &end.tables, rx, start);
     by(end).text(b"read \"").text(text).text(b"\"").print();

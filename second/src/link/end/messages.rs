@@ -97,6 +97,7 @@ impl Open {
     ) -> Result<Answer, Refusal> {
         self.transmit.check_whole(transmit.len())?;
         self.full_early(Fault::FullBeforeReserved, transmit)?;
+        self.index_early(Fault::IndexBeforeReserved, transmit)?;
         let bound = self.check_bound(address);
         if planted(Fault::BoundBeforeStart) {
             bound?;
@@ -172,7 +173,9 @@ impl Open {
             let mut beside = vec![0; self.transmit.length()];
             return self.tell(&mut beside, Forgotten { start: held? });
         }
-        let lent = whole.and_then(|()| self.full_early(Fault::FullBeforeHeld, transmit));
+        let lent = whole
+            .and_then(|()| self.full_early(Fault::FullBeforeHeld, transmit))
+            .and_then(|()| self.index_early(Fault::IndexBeforeHeld, transmit));
         in_order(Fault::HeldBeforeLent, lent, held.map(|_| ()))?;
         let mut answer = self.tell(transmit, Forgotten { start: held? })?;
         let wrong = answer.given.as_delivery();

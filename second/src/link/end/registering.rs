@@ -16,9 +16,14 @@ impl Open {
         self.transmit.check_whole(transmit.len())?;
         if self.initiator {
             self.full_early(Fault::FullBeforeName, transmit)?;
+            self.index_early(Fault::IndexBeforeName, transmit)?;
         }
         let name = Name::registered(name)?;
-        self.check_new(&name)?;
+        let new = self.check_new(&name);
+        if !self.initiator && new.is_err() {
+            self.full_early(Fault::FullBeforeTaken, transmit)?;
+        }
+        new?;
         if self.initiator {
             self.full_early(Fault::FullBeforeRoom, transmit)?;
             let announced = self.announced(name)?;

@@ -9,7 +9,7 @@ use super::region::number_at;
 use super::rings::transmitted;
 use super::Open;
 use crate::link::fault::{planted, unless, Fault};
-use crate::link::refusal::Refusal;
+use crate::link::refusal::{refuse, Refusal};
 use crate::link::ring::Ring;
 
 /// What the partner is told of, once every check but the ring's has passed.
@@ -24,7 +24,8 @@ pub trait Notice {
     fn spoil(self, open: &mut Open, transmit: &mut [u8], refusal: Refusal);
 }
 
-/// True if the fault of a refusal by the ring is planted, 10 or 7.
+/// True if the fault for this refusal by the ring is planted: the first for 10,
+/// the second for 7.
 pub fn spoiled(refusal: Refusal, full: Fault, bad_index: Fault) -> bool {
     planted(match refusal {
         Refusal::Full => full,
@@ -69,6 +70,16 @@ impl Open {
         let ring = Ring::find(&self.transmit.request, transmit)?;
         let read = u32::from_le_bytes(*ring.read_index) as usize % ring.data.len();
         ring.check_space(read, self.write_index as usize, CONTROL)
+    }
+
+    /// Refuses a bad index before its turn, if that fault is planted.
+    pub fn index_early(&self, fault: Fault, transmit: &mut [u8]) -> Result<(), Refusal> {
+        if !planted(fault) {
+            return Ok(());
+        }
+        let ring = Ring::find(&self.transmit.request, transmit)?;
+        let checked = ring.check_push(self.write_index, CONTROL);
+        refuse(checked == Err(Refusal::BadIndex), Refusal::BadIndex)
     }
 
     /// Pushes a control message on a ring that was tested for it.

@@ -33,6 +33,9 @@ by-requires c κs = search needs
 print-requires : tie.Need-print-requires Inv-loop μ-loop
 print-requires c κs = search needs
 
+pull-requires : tie.Need-pull-requires Inv-loop μ-loop
+pull-requires c κs = search needs
+
 returns : tie.Need-returns Inv-loop μ-loop
 returns c = search needs
 
@@ -50,4 +53,5 @@ empty-ring-spec =
     slice-aggregate-by
     by-requires
     print-requires
+    pull-requires
     returns)

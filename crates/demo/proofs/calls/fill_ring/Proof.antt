@@ -38,6 +38,12 @@ by-requires c κs = search needs
 print-requires : tie.Need-print-requires Inv-loop μ-loop
 print-requires c κs = search needs
 
+slice-aggregate-push-2 : tie.Need-slice-aggregate-push-2 Inv-loop μ-loop
+slice-aggregate-push-2 c = search needs
+
+push-requires-2 : tie.Need-push-requires-2 Inv-loop μ-loop
+push-requires-2 c κs = search needs
+
 returns : tie.Need-returns Inv-loop μ-loop
 returns c = search needs
 
@@ -56,4 +62,6 @@ fill-ring-spec =
     slice-aggregate-by
     by-requires
     print-requires
+    slice-aggregate-push-2
+    push-requires-2
     returns)

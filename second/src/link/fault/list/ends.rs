@@ -41,12 +41,20 @@ macro_rules! ends {
         FullBeforeBound,
         /// 10 comes before 23 at send
         FullBeforeFit,
-        /// 10 comes before 20 at register
+        /// 10 comes before 20 at an initiator's register
         FullBeforeName,
         /// 10 comes before 23 and 24 at register
         FullBeforeRoom,
+        /// 10 comes before 21 and 22 at a follower's register
+        FullBeforeTaken,
         /// 10 comes before 25 at done
         FullBeforeHeld,
+        /// 7 comes before 25 at send
+        IndexBeforeReserved,
+        /// 7 comes before 20 at an initiator's register
+        IndexBeforeName,
+        /// 7 comes before 25 at done
+        IndexBeforeHeld,
         /// 10 comes before 7 at send, register and done
         FullBeforeIndex,
         /// 25 comes before 6 at done
