@@ -1,4 +1,6 @@
 // T11 of docs/RULES.md, the bench case that no theorem holds: a ring with 64 data bytes has space for seven packets and not for an eighth.
+#![tactic(auto)]
+
 use icbmsg::{Bounds, Opening};
 use lines::Line;
 use link::{End, PacketAnswer};

@@ -76,9 +76,9 @@ module _ (e : End) (x : Bool) (h : x ≡ open_numbers e.alignment e.tx e.rx e.wr
   unfolding is_open
   is_closed k = sym h ∙ k
 
-  pub is_open : x ≡ true → is_open e ≡ true
+  pub is_open_lem : x ≡ true → is_open e ≡ true
   unfolding is_open
-  is_open k = sym h ∙ k
+  is_open_lem k = sym h ∙ k
 
   pub open_is : x ≡ is_open e
   unfolding is_open

@@ -22,14 +22,14 @@ const LAST_ADDRESS: u8 = 0xFD;
 const NAME_AND_ZERO: usize = endpoints::LONGEST_NAME + 1;
 
 // An arriving message, measured: its length and how many blocks it takes, or why it is refused.
-#[derive(Drop)]
+#[derive(Clone, Copy)]
 pub enum Measured {
     Refused(Refusal),
     Fits { length: u32, count: usize },
 }
 
 // A data message that has arrived: the place of the endpoint that it reaches, its length and how many blocks it takes, or why it is refused.
-#[derive(Drop)]
+#[derive(Clone, Copy)]
 pub enum Delivery {
     Refused(Refusal),
     To {
@@ -40,7 +40,7 @@ pub enum Delivery {
 }
 
 // What becomes of an arriving binding: a waiting endpoint is bound, or it is stored, each at its place.
-#[derive(Drop)]
+#[derive(Clone, Copy)]
 pub enum Binds {
     Refused(Refusal),
     Waiting(usize),
@@ -48,7 +48,7 @@ pub enum Binds {
 }
 
 // An arriving binding: what becomes of it, how many blocks it takes, and its name as it is kept.
-#[derive(Drop)]
+#[derive(Clone, Copy)]
 pub struct Named {
     pub binds: Binds,
     pub count: usize,

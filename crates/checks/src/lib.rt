@@ -1,5 +1,7 @@
 // What a call decides before it changes anything: each function here looks at an end's parts, and answers the refusal, or what the call
 // needs to go on. Nothing is read twice.
+#![tactic(auto)]
+
 pub mod arrivals;
 pub mod registrations;
 
@@ -24,21 +26,21 @@ const MAX_BYTES: usize = region::MAX_BYTES as usize;
 const MAX_BLOCKS: usize = region::MAX_BLOCKS as usize;
 
 // A live run's first entry, or why there is none.
-#[derive(Drop)]
+#[derive(Clone, Copy)]
 pub enum Run {
     Refused(Refusal),
     Live(Entry),
 }
 
 // Where the blocks of a message lie that is to be written, and how many they are.
-#[derive(Drop)]
+#[derive(Clone, Copy)]
 pub enum Space {
     Refused(Refusal),
     At { start: usize, count: usize },
 }
 
 // A send: the address as a byte, how many blocks the reservation has, and how many the message needs.
-#[derive(Drop)]
+#[derive(Clone, Copy)]
 pub enum Sending {
     Refused(Refusal),
     Fits {

@@ -9,14 +9,14 @@ use icbmsg::Numbers;
 use refusal::Refusal;
 
 // The place for a new endpoint.
-#[derive(Drop)]
+#[derive(Clone, Copy)]
 pub enum Place {
     Refused(Refusal),
     At(usize),
 }
 
 // The place for a new endpoint, and its name as it is kept.
-#[derive(Drop)]
+#[derive(Clone, Copy)]
 pub struct Registering {
     pub place: Place,
     pub name: [u8; 32],

@@ -1,4 +1,6 @@
 // Two ends of one link in one process: what each call answers, and what becomes of the blocks.
+#![tactic(auto)]
+
 mod acts;
 mod calls;
 mod ends;

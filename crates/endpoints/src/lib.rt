@@ -1,4 +1,6 @@
 // Endpoints and stored bindings, by name and address: eight of each, searched from the lowest place.
+#![tactic(auto)]
+
 ghost use Rattle.std.specs.Prelude.{◌≡◌, ◌<◌, get_or};
 ghost use Rattle.blocks.specs.Search.{found_at};
 ghost use Rattle.blocks.specs.Tables.{search_of, FoundBelow};
@@ -6,7 +8,7 @@ ghost use Rattle.endpoints.specs.Endpoints.{no_endpoint, is_unused, is_waiting, 
 
 use blocks::Found;
 
-#[derive(Drop)]
+#[derive(Clone, Copy)]
 pub enum Stage {
     Unused,
     Waiting,
@@ -14,7 +16,7 @@ pub enum Stage {
 }
 
 // An endpoint's name has zeros behind it.
-#[derive(Drop)]
+#[derive(Clone, Copy)]
 pub struct Endpoint {
     pub stage: Stage,
     pub address: u8,
@@ -22,7 +24,7 @@ pub struct Endpoint {
 }
 
 // A binding that arrived before its endpoint was registered: where its message lies, and what it says.
-#[derive(Drop)]
+#[derive(Clone, Copy)]
 pub struct Binding {
     pub stored: bool,
     pub address: u8,
@@ -32,7 +34,7 @@ pub struct Binding {
 }
 
 // What an endpoint is searched for: its stage, with the address, the name, or either.
-#[derive(Drop)]
+#[derive(Clone, Copy)]
 pub enum EndpointTest {
     Unused,
     BoundAt,
@@ -44,7 +46,7 @@ pub enum EndpointTest {
 }
 
 // What a binding is searched for: a free place, the name with blocks that lie inside, or a clash with the address or the name.
-#[derive(Drop)]
+#[derive(Clone, Copy)]
 pub enum BindingTest {
     Free,
     Holds,
@@ -52,21 +54,21 @@ pub enum BindingTest {
 }
 
 // What a call changes of the endpoints: the one that stands at the place now, if any does.
-#[derive(Drop)]
+#[derive(Clone, Copy)]
 pub struct EndpointChange {
     pub place: Found,
     pub endpoint: Endpoint,
 }
 
 // And of the stored bindings.
-#[derive(Drop)]
+#[derive(Clone, Copy)]
 pub struct BindingChange {
     pub place: Found,
     pub binding: Binding,
 }
 
 // Whom a send's address reaches: its byte, where a bound endpoint has it.
-#[derive(Drop)]
+#[derive(Clone, Copy)]
 pub enum Addressee {
     Nobody,
     Bound(u8),

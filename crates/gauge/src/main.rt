@@ -1,4 +1,6 @@
 // What a pump runs with: each value of its calibration as it was set by hand against a gauge, else as the incoming sheet has it.
+#![tactic(auto)]
+
 use lines::Line;
 use sheet::Picked;
 

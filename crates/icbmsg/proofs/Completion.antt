@@ -186,7 +186,7 @@ module _ {n : List ℕ} {a s : ℕ} {x : Entry} (sent : x.usage ≡ SentBinding)
   registration_left {e} {c} {r} (l ∷ cs) reached i g =
       let o : Outcome = step e l in
       rw (← (or_assoc c (arrived (completes a) l o.number) _), ← (or_assoc r (arrived (is_release a) l o.number) _))
-      (registration_left cs (called l reached) ((numbers_stay e l).initiator ∙ i) (registration_step l reached i g))
+      (registration_left {e = o.next} cs (called l reached) ((numbers_stay e l).initiator ∙ i) (registration_step l reached i g))
 
 -- ---- a delivery for the address
 

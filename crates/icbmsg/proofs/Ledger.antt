@@ -101,7 +101,7 @@ sent_matches {t = t} l w b (run-taken u s n a k su g f o m) h x = taken-noted (l
 sent_matches l w b (run-freed s v) h x = freed-noted (l transmit) h w b s v x
 sent_matches l w b (run_trimmed u s n a k v su g o m) h x = trimmed_noted (l transmit) h w b u s n a k v su o m x
 
-held_matches : {g : Region} {t t' : List Entry} {bs bs' : List Binding} {x : RunChange} (l : Ledger) → WellFormed g.block_count (held_run g) t → Stored t bs → g.block_count ≤ 256 → HeldChange g t bs x t' bs' →
+held_matches : {g : Region} {t : List Entry} {bs : List Binding} {t' : List Entry} {bs' : List Binding} {x : RunChange} (l : Ledger) → WellFormed g.block_count (held_run g) t → Stored t bs → g.block_count ≤ 256 → HeldChange g t bs x t' bs' →
     Same (l receive) t → (s : ℕ) → enter x l receive s ≡ run_at t' s
 held_matches l w st b as_was h x = h x
 held_matches {t = t} l w st b (receives s n a k y f o m) h x = taken-noted (l receive) h (taken-view w b ReceivedData s n a k o m) (λ i p q. free-at t s n i f p q) refl refl o x

@@ -83,7 +83,7 @@ sent_kept o b (run-taken u s' n a k su g f h m) s l d i r = kept_by_taking o b s
 sent_kept o b (run-freed s' l') s l d i r = kept_by_freeing o b s l i r s' l' (λ q. d (refl, q))
 sent_kept o b (run_trimmed u s' n a k l' su g h m) s l d i r = kept_by_trimming o b s l i r s' l' (λ q. d (refl, q)) u n a k h m
 
-held_kept : {g : Region} {t t' : List Entry} {bs bs' : List Binding} {x : RunChange} → WellFormed g.block_count (held_run g) t → Stored t bs → g.block_count ≤ 256 → HeldChange g t bs x t' bs' →
+held_kept : {g : Region} {t : List Entry} {bs : List Binding} {t' : List Entry} {bs' : List Binding} {x : RunChange} → WellFormed g.block_count (held_run g) t → Stored t bs → g.block_count ≤ 256 → HeldChange g t bs x t' bs' →
     (s : ℕ) → Live t s → (Touched receive s x → ⊥) → (i : ℕ) → InRun t s i → entry t' i ≡ entry t i
 held_kept o w b as_was s l d i r = refl
 held_kept o w b (receives s' n a k h f m x) s l d i r = kept_by_taking o b s l i r _ s' n a k f m x

@@ -150,7 +150,7 @@ turned {t = t} o b (run-taken u s n a k su g f l m) = take_law o b u s n a k su 
 turned o b (run-freed s l) = free_law o b s l
 turned o b (run_trimmed u s n a k l su g h m) = trim_law o b u s n a k l su g h m
 
-kept_table : {g : Region} {t t' : List Entry} {bs bs' : List Binding} {d : RunChange} → WellFormed g.block_count (held_run g) t → Stored t bs → g.block_count ≤ 256 → HeldChange g t bs d t' bs' → WellFormed g.block_count (held_run g) t'
+kept_table : {g : Region} {t : List Entry} {bs : List Binding} {t' : List Entry} {bs' : List Binding} {d : RunChange} → WellFormed g.block_count (held_run g) t → Stored t bs → g.block_count ≤ 256 → HeldChange g t bs d t' bs' → WellFormed g.block_count (held_run g) t'
 kept_table o w b as_was = o
 kept_table {t = t} o w b (receives s n a k h f l m) = take_law o b ReceivedData s n a k refl h (λ i p q. free-at t s n i f p q) l m
 kept_table o w b (finishes s h) = free_law o b s (rw h)
@@ -172,7 +172,7 @@ not_data {x = x} (its_first e) d h = absurd (differ x.usage d (rw e at h))
 not_data (its_later p q e) d h = absurd (clash (stored-live (rw e at h)) refl refl)
 not_data (apart p e) d h = e
 
-kept_stored : {g : Region} {t t' : List Entry} {bs bs' : List Binding} {d : RunChange} → WellFormed g.block_count (held_run g) t → Stored t bs → g.block_count ≤ 256 → HeldChange g t bs d t' bs' → Stored t' bs'
+kept_stored : {g : Region} {t : List Entry} {bs : List Binding} {t' : List Entry} {bs' : List Binding} {d : RunChange} → WellFormed g.block_count (held_run g) t → Stored t bs → g.block_count ≤ 256 → HeldChange g t bs d t' bs' → Stored t' bs'
 kept_stored o w b as_was = w
 kept_stored {t = t} o w b (receives s n a k h f l m) =
     let v = taken-view o b ReceivedData s n a k l m in

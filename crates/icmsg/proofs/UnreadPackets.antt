@@ -14,7 +14,7 @@ use Rattle.wire.specs.Bytes.{little_endian, from_little_endian, straight, bytes,
 use Rattle.wire.specs.Reads.{answer}
 use Rattle.wire.proofs.Positions.{Outside, length-wrote, wrote-append, number-written, byte_kept, outside_writes, bytes_kept, bytes_same, bytes_at-same, bytes-part}
 use Rattle.wire.proofs.Wrapped.{wrapped_shift}
-use Rattle.icmsg.specs.Ring.{read_index_at, write_index_at, data_at, from, index_at, used, packet_length, content_length, behind, start_content}
+use Rattle.icmsg.specs.Ring.{data_length, read_index_at, write_index_at, data_at, from, index_at, used, packet_length, content_length, behind, start_content}
 use Rattle.icmsg.specs.Rules.{Outcome, accepted, answer_number, read_to, refusal, found, nothing, pushed, push_number, push_rule, start_rule, zero_indexes, push_writes, look_rule, pull_found, pull_rule}
 use Rattle.icmsg.specs.Laws.{Sound, after}
 use Rattle.icmsg.specs.Unread.{says_at, packets_from, unread, packet_bytes, Lies, none, more, Holds, Small, Beside, UnreadPackets}
@@ -36,7 +36,7 @@ lies-listed zero (more c p q l) h = absurd (omega (arith, packet_low (length c))
 lies-listed {g} {s} {r} (suc f) (more {n = n} {cs = cs} c p q l) h =
     let k : ℕ = packet_length (length c) in
     let rest : k + n - k ≡ n = omega arith in
-    rw (p, le-leb k (k + n) (omega arith), q, rest) (ap (λ (ds : List (List ℕ)). c ∷ ds) (lies-listed f l (omega (arith, packet_low (length c)))))
+    rw (p, le-leb k (k + n) (omega arith), q, rest) (ap (λ (ds : List (List ℕ)). c ∷ ds) (lies-listed {r = behind (data_length g) r (length c)} f l (omega (arith, packet_low (length c)))))
 
 -- and their bytes are all that is used
 lies-bytes : {g : Ring} {s : List ℕ} {r n : ℕ} {cs : List (List ℕ)} → Lies g s r n cs → n ≡ packet_bytes cs

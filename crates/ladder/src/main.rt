@@ -1,4 +1,6 @@
 // A panel and the unit of a ladder truck, two units in one process: they open, start, and send each other what they have to say.
+#![tactic(auto)]
+
 use icmsg::RingAnswer;
 use lines::Line;
 use unit::{Bounds, OpenAnswer, Opening, Unit};

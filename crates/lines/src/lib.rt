@@ -1,4 +1,6 @@
 // A line of output, put together before it is written. What does not fit is left out.
+#![tactic(auto)]
+
 use refusal::Refusal;
 
 const WIDTH: usize = 160;

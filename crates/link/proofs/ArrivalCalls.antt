@@ -32,7 +32,7 @@ use Rattle.checks.specs.declared.Run.{Run}
 use Rattle.checks.specs.declared.arrivals.Delivery.{Delivery}
 use Rattle.checks.specs.declared.arrivals.Binds.{Binds}
 use Rattle.checks.specs.declared.arrivals.Named.{Named}
-use Rattle.checks.proofs.OpenSays.{is_open, open_says}
+use Rattle.checks.proofs.OpenSays.{is_open_lem, open_says}
 use Rattle.link.specs.Answers.{answered, called_of}
 use Rattle.link.specs.Parts.{SaysOnly}
 use Rattle.link.specs.declared.Answer.{Answer}
@@ -48,7 +48,7 @@ pub sent-ends : (n : Numbers) (t : List ℕ) (u : Use) (s : ℕ) (z : Entry) →
     starts u n.tx.block_count (table_of t 0) s ≡ true → z ≡ entry (table_of t 0) s → s + z.count ≤ 256
 sent-ends n t u s z h k q =
     let e : End = joined n t [] [] in
-    rw q (omega (arith, (run_of u n.tx.block_count (table_of t 0) s k).ends, (open_says e (is_open e _ refl h)).tx.few))
+    rw q (omega (arith, (run_of u n.tx.block_count (table_of t 0) s k).ends, (open_says e (is_open_lem e _ refl h)).tx.few))
 
 -- ---- kind 0
 

@@ -34,7 +34,7 @@ use Rattle.checks.specs.Parts.{joined}
 use Rattle.checks.specs.Decisions.{FitAs, PlaceAs}
 use Rattle.checks.specs.declared.registrations.Place.{Place}
 use Rattle.checks.specs.declared.Space.{Space}
-use Rattle.checks.proofs.OpenSays.{Sound, is_open, open_says, run_inside, whole_says}
+use Rattle.checks.proofs.OpenSays.{Sound, is_open_lem, open_says, run_inside, whole_says}
 use Rattle.checks.proofs.Runs.{fit_at}
 use Rattle.link.specs.Answers.{writing, registered_of}
 use Rattle.link.specs.Parts.{RefusesRegistration, behind_ring}
@@ -48,7 +48,7 @@ refused-only r n t ps bs x h = called-only r.called (Refused x) (writing n r.wri
 
 -- what the numbers of an open end say of the transmit region, and of the receive region
 pub tx_sound : (n : Numbers) → open_numbers n.alignment n.tx n.rx n.write n.read ≡ true → Sound n.alignment n.tx × Sound n.alignment n.rx
-tx_sound n h = let e : End = joined n [] [] [] in let o = open_says e (is_open e _ refl h) in (o.tx, o.rx)
+tx_sound n h = let e : End = joined n [] [] [] in let o = open_says e (is_open_lem e _ refl h) in (o.tx, o.rx)
 
 -- ---- the initiator: the name, at place i
 

@@ -11,7 +11,7 @@ use icmsg::RingAnswer;
 use refusal::Refusal;
 
 // What the ring made of a control message: the own write index behind it, or why it is not pushed.
-#[derive(Drop)]
+#[derive(Clone, Copy)]
 pub enum Handed {
     Refused(Refusal),
     At(u32),

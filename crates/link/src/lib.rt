@@ -2,6 +2,8 @@
 // an associated function on the parts that it needs. The tables are changed in place; what else changes is handed back. A refused call
 // changes nothing, but that a pull drops what is unread at a broken packet. Send, done and register push their control message themselves, all or
 // nothing.
+#![tactic(auto)]
+
 mod announcements;
 mod arrivals;
 mod messages;
@@ -47,7 +49,7 @@ impl End {
 }
 
 // What a call answers.
-#[derive(Drop)]
+#[derive(Clone, Copy)]
 pub enum Answer {
     // Accepted, with nothing more to say.
     Accepted,
@@ -62,7 +64,7 @@ pub enum Answer {
 
 // What a ring call answers: the length of the packet's content, or of a broken packet (9) how many unread bytes were dropped. The own index is
 // among the numbers.
-#[derive(Drop)]
+#[derive(Clone, Copy)]
 pub enum PacketAnswer {
     Length(u32),
     Dropped(u32),
@@ -70,7 +72,7 @@ pub enum PacketAnswer {
 }
 
 // Where a room or view lies in the slice that is lent: its first byte, and how many. None on a refusal.
-#[derive(Drop)]
+#[derive(Clone, Copy)]
 pub struct Place {
     pub answer: Answer,
     pub begin: u32,
@@ -85,14 +87,14 @@ pub struct Opened {
 }
 
 // What a ring call answers, and the end's numbers afterwards.
-#[derive(Drop)]
+#[derive(Clone, Copy)]
 pub struct RingCalled {
     pub answer: PacketAnswer,
     pub numbers: Numbers,
 }
 
 // What send and done answer, and the own write index afterwards.
-#[derive(Drop)]
+#[derive(Clone, Copy)]
 pub struct Pushed {
     pub answer: Answer,
     pub write: u32,
@@ -143,7 +145,7 @@ impl Registered {
 }
 
 // Why a turn stopped.
-#[derive(Drop)]
+#[derive(Clone, Copy)]
 pub enum Stop {
     // As many packets were taken as may be.
     Reached,

@@ -34,7 +34,7 @@ struct Served {
 }
 
 // Whether the turn goes on behind a packet; or for how many packets it counts, and why the turn stops.
-#[derive(Drop)]
+#[derive(Clone, Copy)]
 enum Next {
     GoesOn,
     Stops { counted: u32, stop: Stop },

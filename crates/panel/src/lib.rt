@@ -1,5 +1,7 @@
 // The interface for C: layout, start, push and pull, those of plain units, and the pick of sheets, on numbers and slices. include/petrelknob.h
 // and include/petrelknob_sheet.h declare it.
+#![tactic(auto)]
+
 ghost use Rattle.std.specs.Prelude.{◌≡◌, ◌+◌, ◌≤◌, length, set};
 ghost use Rattle.wire.specs.Bytes.{wrote, same};
 ghost use Rattle.wire.specs.Reads.{answer as read};
@@ -18,7 +20,7 @@ use sheet::Picked;
 use unit::{Bounds, OpenAnswer, Opening, Unit};
 
 // The ring of a region that is lent whole, or why there is none.
-#[derive(Drop)]
+#[derive(Clone, Copy)]
 enum Opened {
     Whole(Ring),
     Refused(Refusal),

@@ -1,5 +1,7 @@
 // Rounds of an end's calls, for a C program to time: each function opens an end, makes the same calls again and again, and answers a
 // checksum of what they answered. bench/calls.c makes the same rounds with an end in plain C, and compares.
+#![tactic(auto)]
+
 use blocks::Found;
 use icbmsg::{Bounds, Numbers, Opening};
 use link::{Answer, End};

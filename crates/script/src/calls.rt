@@ -14,7 +14,7 @@ use link::{Answer, Called, End, Place, Pushed, Registered, RingCalled};
 use wire::read_u32;
 
 // How many bytes of each region calls are lent, if the memory has as many.
-#[derive(Drop)]
+#[derive(Clone, Copy)]
 pub struct Lent {
     pub tx: usize,
     pub rx: usize,

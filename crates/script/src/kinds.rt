@@ -37,7 +37,7 @@ pub const WRITE_TX: u8 = 33;
 pub const LEND: u8 = 34;
 
 // How long the body of a record is, by its kind.
-#[derive(Drop)]
+#[derive(Clone, Copy)]
 pub enum Body {
     // The format has no such kind.
     Unknown,

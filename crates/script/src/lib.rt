@@ -1,4 +1,6 @@
 // Runs a call script (docs/SCRIPT.md) on one end: its opening, then each of its records.
+#![tactic(auto)]
+
 mod calls;
 pub mod kinds;
 pub mod records;

@@ -10,13 +10,13 @@ pub const OPENING: usize = 22;
 
 pub const HEADER: usize = 3;
 
-#[derive(Drop)]
+#[derive(Clone, Copy)]
 pub enum Begun {
     Short,
     Opening(Opening),
 }
 
-#[derive(Drop)]
+#[derive(Clone, Copy)]
 pub enum Next {
     // The script ends, or what follows is no record of the format.
     Stop,

@@ -1,5 +1,7 @@
 // Runs the call script on standard input (docs/SCRIPT.md), prints each row as a line of decimal numbers, and says where and why it
 // stopped early.
+#![tactic(auto)]
+
 ghost use Rattle.std.specs.Prelude.{◌≡◌, ◌+◌, ◌≤◌, length};
 
 use lines::Line;

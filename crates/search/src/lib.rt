@@ -1,4 +1,6 @@
 // The search of a table for a run of free blocks, for the second program to compare: the calls of an end do not tell in how many turns it ends.
+#![tactic(auto)]
+
 ghost use Rattle.std.specs.Prelude.{◌≡◌};
 ghost use Rattle.search.specs.Told.{search_number};
 

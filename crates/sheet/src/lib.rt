@@ -1,5 +1,7 @@
 // Sheets (docs/RULES.md, H): lists of fields, each a tag byte, a length byte and a value. A sheet that was set by hand comes before an incoming
 // one. Nothing is required of a caller: sheets and path may be any bytes.
+#![tactic(auto)]
+
 ghost use Rattle.std.specs.Prelude.{◌≡◌, ◌-◌, ◌≤◌, ◌<◌, length};
 ghost use Rattle.std.proofs.Math.Seq.{slice};
 ghost use Rattle.sheet.specs.Tags.{has_bit, with_bit};
@@ -20,7 +22,7 @@ const MOST_TAGS: usize = 5;
 const FIRST_GROUP: usize = 128;
 
 // What a pick finds, and in which sheet.
-#[derive(Drop)]
+#[derive(Clone, Copy)]
 pub enum Picked {
     InHand { begin: usize, size: usize },
     InIncoming { begin: usize, size: usize },
@@ -41,7 +43,7 @@ impl Picked {
 }
 
 // Where a value lies in a sheet.
-#[derive(Drop)]
+#[derive(Clone, Copy)]
 enum Place {
     At { begin: usize, size: usize },
     Nowhere,

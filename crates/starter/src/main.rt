@@ -1,5 +1,7 @@
 // Two cores in one process: each opens its end of the link, they bind an endpoint, the panel sends a message, and the pump reads it. To begin a
 // program, copy this crate and keep what `main` does with one of the two.
+#![tactic(auto)]
+
 use icbmsg::{Bounds, Opening};
 use lines::Line;
 use link::{Answer, End, PacketAnswer, Pushed, RingCalled};

@@ -1,6 +1,8 @@
 // Two tables of blocks, one behind the other in one array of bytes, so that a call can be lent both at once. A table, the bytes from its base
 // on, is a bit for each of at most 256 blocks, and six bytes for each block that count only where a run starts. It is changed in place, and it
 // is the same for both directions.
+#![tactic(auto)]
+
 ghost use Rattle.std.specs.Prelude.{◌≡◌, ◌+◌, ◌≤◌, ◌<◌, ◌^◌, length, replicate};
 ghost use Rattle.blocks.specs.Tables.{free_entry, starts as startsRule, starts_data, holds_length, IsRun, all_free, free_blocks, freed, taken, free_run, search_of, FoundBelow};
 ghost use Rattle.blocks.specs.OnePass.{OnePass};
@@ -165,7 +167,7 @@ pub fn data_at(t: &[u8], base: usize, block_count: u16, block_size: u32, s: u32)
 }
 
 // What a search found, and in how many turns: each turn looks at one block.
-#[derive(Drop)]
+#[derive(Clone, Copy)]
 pub struct Searched {
     pub found: Found,
     pub turns: usize,

@@ -1,5 +1,7 @@
 // A plain ICMsg unit (docs/RULES.md, U): both regions are all ring, and packets hold the data itself. Nothing is required of a caller, and a
 // unit may be any value: one that no opening gave is refused where its ring does not lie in the slice.
+#![tactic(auto)]
+
 ghost use Rattle.std.specs.Prelude.{◌≡◌, length};
 ghost use Rattle.wire.specs.Bytes.{wrote};
 ghost use Rattle.refusal.specs.Numbers.{number_of};
@@ -15,14 +17,14 @@ use refusal::Refusal;
 use region::LayoutAnswer;
 
 // A region as an opening is given it: its first address, and the address behind its last byte.
-#[derive(Drop)]
+#[derive(Clone, Copy)]
 pub struct Bounds {
     pub begin: u32,
     pub end: u32,
 }
 
 // What an opening is given: the alignment, the region that this unit sends in, and the one that it receives in.
-#[derive(Drop)]
+#[derive(Clone, Copy)]
 pub struct Opening {
     pub alignment: u32,
     pub tx: Bounds,
@@ -30,7 +32,7 @@ pub struct Opening {
 }
 
 // A region's numbers: its length in raw bytes, the offset of its ring in them, and the ring's data length.
-#[derive(Drop)]
+#[derive(Clone, Copy)]
 pub struct Region {
     pub length: u32,
     pub ring_offset: u32,
@@ -38,7 +40,7 @@ pub struct Region {
 }
 
 // A unit: its alignment, its regions, and its own index in each.
-#[derive(Drop)]
+#[derive(Clone, Copy)]
 pub struct Unit {
     pub alignment: u32,
     pub tx: Region,
@@ -47,28 +49,28 @@ pub struct Unit {
     pub read: u32,
 }
 
-#[derive(Drop)]
+#[derive(Clone, Copy)]
 pub enum OpenAnswer {
     Accepted,
     Refused(Refusal),
 }
 
 // What an opening answers, and the unit that it makes.
-#[derive(Drop)]
+#[derive(Clone, Copy)]
 pub struct Opened {
     pub answer: OpenAnswer,
     pub unit: Unit,
 }
 
 // What a call answers, and the unit afterwards.
-#[derive(Drop)]
+#[derive(Clone, Copy)]
 pub struct Called {
     pub answer: RingAnswer,
     pub unit: Unit,
 }
 
 // A region that is laid out, or why it is not.
-#[derive(Drop)]
+#[derive(Clone, Copy)]
 enum Placed {
     At(Region),
     Refused(Refusal),
