@@ -1,7 +1,7 @@
 -- A turn: one packet, by what pull and arrival have answered, and the loop over packets.
 use Prim.Native.Nat.{ℕ, suc, ◌+◌, ◌-◌, ◌≤◌, ◌<◌, min}
 use mathlib.Core.Bool.{Bool, true, false}
-use mathlib.Core.Path.{◌≡◌, refl, sym, ap, ◌∙◌}
+use mathlib.Core.Path.{◌≡◌, refl, sym, ap, subst, ◌∙◌}
 use mathlib.Core.List.{List, []}
 use native.Mathlib.Omega.{arith}
 use lib.Dec.{eqb}
@@ -27,7 +27,7 @@ use Rattle.icbmsg.specs.Ends.{open_numbers, is_open, whole, changed, with_read}
 use Rattle.icbmsg.specs.Rings.{receive_ring, pull_outcome, pull_rule}
 use Rattle.icbmsg.specs.Arrivals.{arrival_rule}
 use Rattle.icbmsg.specs.Calls.{pull, rule, read_from, step}
-use Rattle.icbmsg.specs.Turns.{Stop, reached, at_pull, at_arrival, Turn, turned, Packet as RulePacket, Served, three, pulling, pulled_rx, length_given, handed, arriving, served, behind, turn_from, turn_of}
+use Rattle.icbmsg.specs.Turns.{Stop, reached, at_pull, at_arrival, Turn, turned, Packet as RulePacket, Served, handled, three, pulling, pulled_rx, length_given, handed, arriving, served, behind, turn_from, turn_of}
 use Rattle.icbmsg.specs.End.{End}
 use Rattle.icbmsg.specs.declared.Numbers.{Numbers}
 use Rattle.icbmsg.proofs.RulesRead.{pull-answer}
@@ -163,6 +163,9 @@ module _ (n : Numbers) (rx rx' : List ℕ) (r : RingCalled)
       rw (ne_eqb (pulling e rx).number 0 (λ z. omega (arith, k, z)), l.packet, l.read, l.endpoints ps, l.bindings bs, ← k, ← g, y, p.bytes) refl
 
   -- one is taken, and handed over
+  abbrev handled_so : List ℕ → Outcome → Served
+  handled_so s o = record { packet = handled o.number o.given; rx = s; next = o.next }
+
   pub serve_handled : (k : ℕ) (b' m t' : List ℕ) (c : Called) → r.answer ≡ PacketAnswer.Length k → Writes (λ o. o.buffer) (λ e. answer (pull_rule e (length rx) 3) rx) n three b' → m ≡ take (min k 3) b' →
       called_of c r.numbers t' ps bs ≡ answer (arrival_rule (joined r.numbers t ps bs) (length rx') m) rx' →
       served_of (record { packet = Packet.Handled c.answer; read = r.numbers.read; endpoint = c.endpoint; binding = c.binding }) n t' ps bs rx' ≡ served (joined n t ps bs) rx
@@ -174,7 +177,8 @@ module _ (n : Numbers) (rx rx' : List ℕ) (r : RingCalled)
       let g : (pulling e rx).given ≡ a_length k = sym p.given ∙ ap packet_given q in
       let i : m ≡ handed e rx = v ∙ ap (take (min k 3)) (w t ps bs) ∙ ap (λ (x : Given). take (min (length_given x) 3) (wrote three (pulling e rx).buffer)) (sym g) in
       let o : called_of c r.numbers t' ps bs ≡ arriving e rx = a ∙ rw (p.next, p.bytes, i) refl in
-      rw (z, p.bytes, ← p.numbers) (cc)
+      let f : called_of c (reading n r.numbers.read) t' ps bs ≡ arriving e rx = subst (λ (x : Numbers). called_of c x t' ps bs ≡ arriving e rx) p.numbers o in
+      rw (z, p.bytes) (ap (handled_so (pulled_rx e rx)) f)
 
 -- ---- the turn
 
