@@ -8,14 +8,14 @@ use link::{Answer, End, PacketAnswer, Pushed};
 pub type Memory = [u8; 2048];
 
 // What a call answered, and the end after it.
-#[derive(Drop)]
+#[derive(Clone, Copy)]
 pub struct After {
     pub answer: Answer,
     pub end: End,
 }
 
 // The end after a pull, and what it pulled: the first bytes of the buffer.
-#[derive(Drop)]
+#[derive(Clone, Copy)]
 pub struct Pulled {
     pub end: End,
     buffer: [u8; 16],
@@ -190,7 +190,7 @@ fn put(room: &mut [u8], text: &[u8]) -> usize {
 }
 
 // The size of a reservation's room, and how much of it the text fills.
-#[derive(Drop)]
+#[derive(Clone, Copy)]
 struct Filled {
     size: u32,
     used: u32,

@@ -5,7 +5,7 @@ use link::{Answer, End};
 
 // The two ends, seen from the one that sends: what the last call answered, and the two regions of shared memory, the one that it sends in
 // and the one that comes back.
-#[derive(Drop)]
+#[derive(Clone, Copy)]
 pub struct Ends {
     pub answer: Answer,
     pub from: End,

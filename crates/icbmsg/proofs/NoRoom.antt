@@ -21,7 +21,7 @@ use Rattle.icbmsg.specs.Ends.{is_open, whole, found_or}
 use Rattle.icbmsg.specs.Rings.{transmit_ring, all_or_nothing}
 use Rattle.icbmsg.specs.Messages.{need, reserving, reservation, reserve_of}
 use Rattle.icbmsg.specs.Registering.{announcement, followed, initiates, register_of}
-use Rattle.icbmsg.specs.Calls.{reserve, register, rule, read_from, step}
+use Rattle.icbmsg.specs.Calls.{reserve, rule, read_from, step}
 use Rattle.icbmsg.specs.Theorems.{FreeRun, Crowded, Reserves, too_long, no_room, at_lowest, Registers, NeedLeast, ReserveSays, NoRoom}
 use Rattle.icbmsg.specs.Pushing.{PushedOrNot, nothing_to_push, not_pushed, is_pushed}
 use Rattle.icbmsg.specs.End.{End}

@@ -5,7 +5,6 @@ use mathlib.Core.Path.{◌≡◌, refl, ap, ◌∙◌}
 use mathlib.Core.List.{List, [], ◌∷◌}
 use native.Mathlib.Omega.{arith}
 use lib.Dec.{leb, ltb}
-use lib.ListN.{length}
 use borrow.Author.Tests.{le-leb, lt-ltb}
 use Rattle.wire.specs.Choice.{pick}
 use Rattle.wire.specs.Bytes.{same}
@@ -17,7 +16,7 @@ use Rattle.blocks.specs.declared.Use.{Use}
 use Rattle.blocks.specs.declared.Use.TheVariants.{Reserved, SentData, SentBinding, ReceivedData}
 use Rattle.blocks.specs.declared.Entry.{Entry}
 use Rattle.blocks.proofs.Tables.{each, use_is}
-use Rattle.endpoints.specs.Endpoints.{at, holds}
+use Rattle.endpoints.specs.Endpoints.{holds}
 use Rattle.endpoints.specs.declared.Binding.{Binding}
 use Rattle.icbmsg.specs.WellFormed.{held_run, binding_of, Stored}
 use Rattle.icbmsg.specs.Theorems.{NothingAdded}

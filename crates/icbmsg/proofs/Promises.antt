@@ -17,8 +17,6 @@ use Rattle.icbmsg.proofs.ClosedEnds.{closed_six}
 use Rattle.icbmsg.proofs.AllOrNothing.{all_or_nothing_lem}
 use Rattle.icbmsg.proofs.RingLast.{ring_last}
 use Rattle.icbmsg.proofs.RingAfter.{ring_after}
-use Rattle.icbmsg.proofs.Turns.{three_enough, one_by_one, turns_in_lists, turn_stops, nothing_lost}
-use Rattle.icbmsg.proofs.TurnsOnRings.{turn_takes}
 use Rattle.icbmsg.proofs.ReadApart.{read_apart}
 use Rattle.icbmsg.proofs.Ledger.{by_history}
 use Rattle.icbmsg.proofs.NothingAdded.{nothing_added}
@@ -66,12 +64,6 @@ promises =
       address_lowest = address_lowest;
       binding_completes = binding_completes;
       data_reaches = data_reaches;
-      one_by_one = one_by_one;
-      turns_in_lists = turns_in_lists;
-      turn_stops = turn_stops;
-      nothing_lost = nothing_lost;
-      three_enough = three_enough;
-      turn_takes = turn_takes;
       pull_reads = pull_reads_what_is_listed;
       push_reads = push_reads_the_index;
       read_apart = read_apart;

@@ -10,14 +10,14 @@ use Rattle.wire.specs.Choice.{pick}
 use Rattle.wire.specs.Bytes.{wrote}
 use Rattle.wire.specs.Reads.{answer}
 use Rattle.icmsg.specs.Rules.{Answer, refused as ringNo, accepted as ringYes, dropped as ringDropped, Outcome as RingOutcome, pull_rule as ringPull}
-use Rattle.icbmsg.specs.Outcome.{Given, nothing, a_length, dropped, a_run, control, delivery, Outcome, ring_refused}
+use Rattle.icbmsg.specs.Outcome.{Given, nothing, a_length, dropped, a_run, control, delivery, ring_refused}
 use Rattle.icbmsg.specs.Ends.{whole}
 use Rattle.icbmsg.specs.Rings.{receive_ring, pull_outcome}
 use Rattle.icbmsg.specs.Arrivals.{decode, arrival_rule}
-use Rattle.icbmsg.specs.Calls.{Call, pull, arrival, rule, read_from, lent, step, left}
+use Rattle.icbmsg.specs.Calls.{Call, pull, arrival, rule, read_from, step, left}
 use Rattle.icbmsg.specs.Theorems.{Reached, called}
 use Rattle.icbmsg.specs.Places.{area_of}
-use Rattle.icbmsg.specs.Turns.{Stop, reached, at_pull, at_arrival, Turn, turned, three, pulling, pulled_rx, handed, arriving, Packet, missing, handled, Served, served, ends_turn, behind, turn_from, turn_of, calls_from, turn_calls}
+use Rattle.icbmsg.specs.Turns.{Stop, reached, at_pull, at_arrival, Turn, turned, three, pulling, pulled_rx, handed, arriving, served, ends_turn, turn_from, turn_of, calls_from, turn_calls}
 use Rattle.icbmsg.specs.TurnLaws.{took_by, stop_by, made_of, OneByOne, Act, single, turn, left_by, singles, TurnsInLists, resumed, TurnStops, is_for_caller, for_caller, told, NothingLost, ThreeEnough}
 use Rattle.icbmsg.specs.End.{End}
 use Rattle.icbmsg.proofs.RulesRead.{pull-answer}

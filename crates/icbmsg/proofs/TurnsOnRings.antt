@@ -1,21 +1,19 @@
 -- What a turn takes off the receive ring, and where it writes.
-use Prim.Native.Nat.{ℕ, zero, suc, ◌+◌, ◌≤◌, ◌<◌, min}
-use mathlib.Core.Bool.{Bool, true, false, true≢false}
+use Prim.Native.Nat.{ℕ, suc, ◌+◌, ◌≤◌, min}
+use mathlib.Core.Bool.{true, false, true≢false}
 use mathlib.Core.Path.{◌≡◌, refl, sym, ap, subst, ◌∙◌}
 use mathlib.Core.List.{List, [], ◌∷◌, ◌++◌}
 use native.Mathlib.Omega.{arith}
 use native.Mathlib.Nat.{min-eq_right}
-use lib.Dec.{leb, eqb}
+use lib.Dec.{eqb}
 use lib.ListN.{length, take, drop as without}
 use borrow.Author.Tests.{leb-true}
-use Rattle.wire.specs.Choice.{pick}
 use Rattle.wire.specs.Bytes.{straight, writes, wrote, Inside}
-use Rattle.wire.specs.Reads.{answer}
 use Rattle.wire.proofs.Choices.{both}
 use Rattle.wire.proofs.Positions.{length-wrote, wrote-append, within-append}
 use Rattle.icmsg.specs.Ring.{data_at, in_rule, behind}
 use Rattle.icmsg.specs.Laws.{InRing}
-use Rattle.icmsg.specs.Rules.{accepted, Outcome as RingOutcome, refusal, read_to, pull_rule as ringPull}
+use Rattle.icmsg.specs.Rules.{read_to}
 use Rattle.icmsg.specs.Unread.{Holds, Small}
 use Rattle.icmsg.specs.declared.Ring.{Ring}
 use Rattle.icmsg.proofs.UnreadPackets.{unread_packets}
@@ -23,12 +21,11 @@ use Rattle.blocks.proofs.Tables.{every}
 use Rattle.icbmsg.specs.Outcome.{Given, a_length, Outcome, ring_refused}
 use Rattle.icbmsg.specs.Ends.{sound_end, is_open, whole, changed, with_read}
 use Rattle.icbmsg.specs.Rings.{receive_ring, ring_of}
-use Rattle.icbmsg.specs.Calls.{Call, pull, arrival, rule, read_from, lent, step}
+use Rattle.icbmsg.specs.Calls.{pull, arrival, rule, read_from, lent, step}
 use Rattle.icbmsg.specs.Places.{area_of}
 use Rattle.icbmsg.specs.Pushing.{is_pull}
-use Rattle.icbmsg.specs.Turns.{Stop, reached, at_pull, at_arrival, Turn, turned, three, pulling, pulled_rx, length_given, handed, arriving, ends_turn, turn_from, turn_of}
+use Rattle.icbmsg.specs.Turns.{Stop, reached, at_pull, at_arrival, Turn, turned, three, pulling, pulled_rx, handed, arriving, turn_from, turn_of}
 use Rattle.icbmsg.specs.TurnLaws.{OnReceiveRing, TurnTakes}
-use Rattle.icbmsg.specs.declared.Region.{Region}
 use Rattle.icbmsg.specs.End.{End}
 use Rattle.icbmsg.proofs.RulesRead.{pull-answer}
 use Rattle.icbmsg.proofs.Refusals.{numbers_stay, open_stays}

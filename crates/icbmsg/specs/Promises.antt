@@ -8,7 +8,6 @@ use Rattle.icbmsg.specs.Ledger.{ByHistory}
 use Rattle.icbmsg.specs.Theorems.{Refusals, NumbersStay, OpenStays, ClosedSix, OpenExactly, Separated, RunsDisjoint, BlocksCovered, RunsStay, SendTrims, NothingAdded, AddressLowest, NeedLeast, ReserveSays, NoRoom}
 use Rattle.icbmsg.specs.Places.{PartsInside, PartsApart, WritesInside}
 use Rattle.icbmsg.specs.Pushing.{AllOrNothing, RingLast, RingAfter, ReadApart}
-use Rattle.icbmsg.specs.TurnLaws.{OneByOne, TurnsInLists, TurnStops, NothingLost, ThreeEnough, TurnTakes}
 use Rattle.icbmsg.specs.Names.{NamesKept}
 use Rattle.icbmsg.specs.Completion.{BindingCompletes, DataReaches}
 use Rattle.icbmsg.specs.NewerPartner.{NewerPartner}
@@ -51,13 +50,6 @@ pub record Promises : Type 0 where
   pub address_lowest : AddressLowest
   pub binding_completes : BindingCompletes
   pub data_reaches : DataReaches
-  -- turns
-  pub one_by_one : OneByOne
-  pub turns_in_lists : TurnsInLists
-  pub turn_stops : TurnStops
-  pub nothing_lost : NothingLost
-  pub three_enough : ThreeEnough
-  pub turn_takes : TurnTakes
   -- D3
   pub pull_reads : PullReads
   pub push_reads : PushReads

@@ -5,7 +5,7 @@ use refusal::Refusal;
 
 const WIDTH: usize = 160;
 
-#[derive(Drop)]
+#[derive(Clone, Copy)]
 pub struct Line {
     bytes: [u8; WIDTH],
     length: usize,

@@ -21,7 +21,7 @@ use icbmsg::Numbers;
 use refusal::Refusal;
 
 // One end: its numbers, the tables of its transmit and receive blocks, the endpoints and the stored bindings.
-#[derive(Drop)]
+#[derive(Clone, Copy)]
 pub struct End {
     pub numbers: Numbers,
     pub tables: [u8; End::TABLES],
@@ -80,7 +80,7 @@ pub struct Place {
 }
 
 // What an opening answers, and the end that it makes.
-#[derive(Drop)]
+#[derive(Clone, Copy)]
 pub struct Opened {
     pub answer: Answer,
     pub end: End,
@@ -101,7 +101,7 @@ pub struct Pushed {
 }
 
 // What an arrival or a registration answers, and what it changes of the endpoints and the stored bindings.
-#[derive(Drop)]
+#[derive(Clone, Copy)]
 pub struct Called {
     pub answer: Answer,
     pub endpoint: EndpointChange,
@@ -126,7 +126,7 @@ impl Called {
 }
 
 // What a registration answers and changes, and the own write index afterwards.
-#[derive(Drop)]
+#[derive(Clone, Copy)]
 pub struct Registered {
     pub called: Called,
     pub write: u32,
@@ -161,7 +161,7 @@ pub enum Stop {
 
 // What a turn answers, how many packets it took and why it stopped; and what it leaves beside the tables: the own read index, the endpoints and the
 // stored bindings.
-#[derive(Drop)]
+#[derive(Clone, Copy)]
 pub struct Turned {
     pub taken: u32,
     pub stop: Stop,

@@ -17,7 +17,7 @@ use icbmsg::{Control, Numbers};
 use refusal::Refusal;
 
 // What became of the next packet: none was taken, since its pull is refused, or drops what is unread; or what its arrival answers.
-#[derive(Drop)]
+#[derive(Clone, Copy)]
 enum Packet {
     Missing(Refusal),
     Dropped(u32),
@@ -25,7 +25,7 @@ enum Packet {
 }
 
 // That, the own read index afterwards, and what the arrival changes of the endpoints and the stored bindings.
-#[derive(Drop)]
+#[derive(Clone, Copy)]
 struct Served {
     packet: Packet,
     read: u32,

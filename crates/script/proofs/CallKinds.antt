@@ -107,11 +107,11 @@ last_body : (b : Bool) (n : ℕ) → admits (pick (false || (b || false)) (Exact
 last_body true n h = eqb-true n 8 h
 last_body false n h = absurd (false≢true h)
 
-pub body_21 : (k n : ℕ) → LastCall k → (k ≡ 22 → ⊥) → (k ≡ 32 → ⊥) → (k ≡ 33 → ⊥) → (k ≡ 34 → ⊥) → has k n ≡ true → n ≡ 8
+pub body_21 : (k n : ℕ) → LastCall k → (k ≡ 32 → ⊥) → (k ≡ 33 → ⊥) → (k ≡ 34 → ⊥) → has k n ≡ true → n ≡ 8
 unfolding has body_of
-body_21 k n h x u v w p =
+body_21 k n h u v w p =
     last_body (eqb k 21) n
-    (rw (ne_eqb k 0 h.n0, ne_eqb k 1 h.n1, ne_eqb k 6 h.n6, ne_eqb k 2 h.n2, ne_eqb k 4 h.n4, ne_eqb k 5 h.n5, ne_eqb k 18 h.n18, ne_eqb k 19 h.n19, ne_eqb k 22 x, ne_eqb k 3 h.n3, ne_eqb k 16 h.n16, ne_eqb k 17 h.n17, ne_eqb k 20 h.n20, ne_eqb k 34 w, ne_eqb k 32 u, ne_eqb k 33 v) at p)
+    (rw (ne_eqb k 0 h.n0, ne_eqb k 1 h.n1, ne_eqb k 6 h.n6, ne_eqb k 2 h.n2, ne_eqb k 4 h.n4, ne_eqb k 5 h.n5, ne_eqb k 18 h.n18, ne_eqb k 19 h.n19, ne_eqb k 3 h.n3, ne_eqb k 16 h.n16, ne_eqb k 17 h.n17, ne_eqb k 20 h.n20, ne_eqb k 34 w, ne_eqb k 32 u, ne_eqb k 33 v) at p)
 
 module _ (k n : ℕ) (p : has k n ≡ true) where
   -- a body of m bytes, by its kind
@@ -146,10 +146,6 @@ module _ (k n : ℕ) (p : has k n ≡ true) where
   pub body_20 : k ≡ 20 → n ≡ 8
   unfolding has body_of
   body_20 h = eqb-true n 8 (rw h at p)
-
-  pub body_22 : k ≡ 22 → n ≡ 4
-  unfolding has body_of
-  body_22 h = eqb-true n 4 (rw h at p)
 
   pub body_32 : k ≡ 32 → 4 ≤ n
   unfolding has body_of

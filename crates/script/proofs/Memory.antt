@@ -7,17 +7,16 @@ use native.Mathlib.Omega.{arith}
 use native.Mathlib.Nat.{min-eq_left, min-eq_right}
 use lib.Dec.{leb}
 use borrow.Author.Tests.{leb-true, leb-false, ne_eqb}
-use lib.ListN.{length, take, drop, length-take, drop_of_length-le}
-use lib.Seq.{take-length, take_all, drop-length}
+use lib.ListN.{length, take, length-take}
+use lib.Seq.{take-length, take_all}
 use Rattle.wire.specs.Reads.{answer}
 use Rattle.icbmsg.specs.Outcome.{Outcome, without_writes}
 use Rattle.icbmsg.specs.Rings.{pull_rule}
 use Rattle.icbmsg.specs.Calls.{rule, lent, read_from, step, pull}
-use Rattle.icbmsg.specs.Turns.{turn_of}
 use Rattle.icbmsg.specs.End.{End}
 use Rattle.link.specs.Answers.{end_of}
 use Rattle.script.specs.Records.{number_at}
-use Rattle.script.specs.Calls.{call_outcome, nothing, record_step, RanAs, TurnedAs}
+use Rattle.script.specs.Calls.{call_outcome, nothing, record_step, RanAs}
 use Rattle.script.specs.declared.calls.Ran.{Ran}
 use Rattle.script.proofs.CallKinds.{but_for_writes}
 
@@ -34,16 +33,6 @@ first_least l n m e = rw e (go (leb n (length l)) refl)
     go false h =
         let le : length l ≤ n = omega (arith, leb-false n (length l) h) in
         rw (min-eq_right le) (take-length l ∙ sym (take_all n l le))
-
--- and what is not lent
-pub rest_least : (l : List ℕ) (n m : ℕ) → m ≡ min n (length l) → drop m l ≡ drop n l
-rest_least l n m e = rw e (go (leb n (length l)) refl)
-  where
-    go : (b : Bool) → leb n (length l) ≡ b → drop (min n (length l)) l ≡ drop n l
-    go true h = rw (min-eq_left (leb-true n (length l) h))
-    go false h =
-        let le : length l ≤ n = omega (arith, leb-false n (length l) h) in
-        rw (min-eq_right le) (drop-length l ∙ sym (drop_of_length-le l le))
 
 -- a pull into the first n bytes of the buffer
 pub pulled_as : (e : End) (rx buffer : List ℕ) (n m : ℕ) → m ≡ min n (length buffer) → {r : Ran} {o : Outcome} → RanAs r o →
@@ -66,13 +55,8 @@ module _ (e : End) (n m : ℕ) (b tx rx buffer : List ℕ) (k : ℕ) where
   unfolding record_step
   lends i j p q h = rw (h, p, q)
 
-  pub turns : (i j : ℕ) → i ≡ number_at 4 b 0 → j ≡ min m (length rx) → k ≡ 22 → {r : Ran} →
-      TurnedAs r (turn_of e (take j rx) i) → record { reply = r.reply; end = end_of r.end; lent_tx = n; lent_rx = m } ≡ record_step k b e n m tx rx buffer
-  unfolding record_step
-  turns i j p q z h = rw (z, ← p, ← (first_least rx m j q), h.reply, h.end)
-
-  pub calls : (i j : ℕ) → i ≡ min n (length tx) → j ≡ min m (length rx) → (k ≡ 22 → ⊥) → (k ≡ 32 → ⊥) → (k ≡ 33 → ⊥) → (k ≡ 34 → ⊥) → {r : Ran} →
+  pub calls : (i j : ℕ) → i ≡ min n (length tx) → j ≡ min m (length rx) → (k ≡ 32 → ⊥) → (k ≡ 33 → ⊥) → (k ≡ 34 → ⊥) → {r : Ran} →
       RanAs r (call_outcome e k b (take i tx) (take j rx) buffer) → record { reply = r.reply; end = end_of r.end; lent_tx = n; lent_rx = m } ≡ record_step k b e n m tx rx buffer
   unfolding record_step
-  calls i j p q x u v w {r} h =
-      rw (ne_eqb k 22 x, ne_eqb k 32 u, ne_eqb k 33 v, ne_eqb k 34 w, ← (first_least tx n i p), ← (first_least rx m j q), h.reply, h.end)
+  calls i j p q u v w {r} h =
+      rw (ne_eqb k 32 u, ne_eqb k 33 v, ne_eqb k 34 w, ← (first_least tx n i p), ← (first_least rx m j q), h.reply, h.end)

@@ -21,12 +21,11 @@ use Rattle.icbmsg.specs.Rings.{start_of, push_rule, pull_rule}
 use Rattle.icbmsg.specs.Messages.{room_of, view_of, send_rule, done_rule}
 use Rattle.icbmsg.specs.Registering.{register_rule}
 use Rattle.icbmsg.specs.Calls.{Call, start, push, pull, reserve, room, send, drop as dropCall, arrival, view, done, register, ask_room, ask_view, rule, lent, read_from, step}
-use Rattle.icbmsg.specs.Turns.{Turn, turn_of}
 use Rattle.icbmsg.specs.End.{End}
 use Rattle.icbmsg.proofs.Writes.{writes_stay_inside}
 use Rattle.script.specs.Records.{number_at}
-use Rattle.script.specs.Calls.{call_of, call_outcome, overwritten, Leaves, RecordLeaves, Wrote}
-use Rattle.script.proofs.Memory.{first_least, rest_least}
+use Rattle.script.specs.Calls.{call_of, call_outcome, overwritten, Leaves, Wrote}
+use Rattle.script.proofs.Memory.{first_least}
 
 -- ---- writes inside the first bytes
 
@@ -192,18 +191,6 @@ module _ (e : End) (tx rx : List ℕ) where
       (leaf (ask_view (number_at 4 b 0) (number_at 4 b 4)) (omega arith) (omega arith)))))))))))))
 
 -- ---- the memory after a record
-
--- a record of another kind than a turn
-pub no_turn : (k : ℕ) (b : List ℕ) (e : End) (n m : ℕ) (tx rx buffer tx' rx' buffer' : List ℕ) → (k ≡ 22 → ⊥) →
-    Leaves k b (call_outcome e k b (take n tx) (take m rx) buffer) tx rx buffer tx' rx' buffer' → RecordLeaves k b e n m tx rx buffer tx' rx' buffer'
-no_turn k b e n m tx rx buffer tx' rx' buffer' z h = rw (ne_eqb k 22 z) h
-
--- a turn, which is lent the first m receive bytes, or as many as there are
-pub leaves_turn : (e : End) (n m : ℕ) (b tx rx buffer : List ℕ) (k i j : ℕ) → i ≡ number_at 4 b 0 → j ≡ min m (length rx) → k ≡ 22 → (rx' : List ℕ) → rx' ≡ (turn_of e (take j rx) i).rx →
-    RecordLeaves k b e n m tx rx buffer tx (rx' ++ drop j rx) buffer
-leaves_turn e n m b tx rx buffer k i j p q z rx' h =
-    let t : Turn = turn_of e (take j rx) i in
-    rw (z, ← p, ← (first_least rx m j q)) (record { transmit = refl; receive = ap (λ (x : List ℕ). x ++ drop j rx) h ∙ ap (λ (x : List ℕ). t.rx ++ x) (rest_least rx m j q); buffered = refl })
 
 module _ (k : ℕ) (b : List ℕ) (o : Outcome) (tx rx buffer : List ℕ) where
   pub leaves_rx : (rx' : List ℕ) → k ≡ 32 → rx' ≡ overwritten rx b → Leaves k b o tx rx buffer tx rx' buffer

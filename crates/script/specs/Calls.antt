@@ -1,14 +1,13 @@
 -- What a record does (docs/SCRIPT.md).
-use Rattle.std.specs.Prelude.{ℕ, true, ◌||◌, ◌≡◌, List, ◌++◌, eqb, length, take, drop as dropped}
+use Rattle.std.specs.Prelude.{ℕ, true, ◌||◌, ◌≡◌, List, eqb, length, take, drop as dropped}
 use Rattle.wire.specs.Choice.{pick}
 use Rattle.wire.specs.Bytes.{straight, writes, wrote}
 use Rattle.icbmsg.specs.Outcome.{nothing as none, Outcome}
 use Rattle.icbmsg.specs.Calls.{Call, start, push, pull, reserve, room, send, drop, arrival, view, done, register, ask_room, ask_view, step}
-use Rattle.icbmsg.specs.Turns.{Turn, turn_of}
 use Rattle.icbmsg.specs.End.{End}
 use Rattle.link.specs.Answers.{end_of}
 use Rattle.script.specs.Records.{number_at, has}
-use Rattle.script.specs.Rows.{reply, reply_of, turn_reply}
+use Rattle.script.specs.Rows.{reply, reply_of}
 use Rattle.script.specs.declared.calls.Ran.{Ran}
 use Rattle.script.specs.declared.calls.Stepped.{Stepped}
 
@@ -45,16 +44,12 @@ nothing e n m = record { reply = reply 0 none 0 0; end = e; lent_tx = n; lent_rx
 abbrev pub called : Outcome → ℕ → ℕ → Step
 called o n m = record { reply = reply_of o; end = o.next; lent_tx = n; lent_rx = m }
 
-abbrev pub turned : Turn → ℕ → ℕ → Step
-turned t n m = record { reply = turn_reply t.taken t.stop; end = t.next; lent_tx = n; lent_rx = m }
-
 -- a record of kind k with the body b, where calls are lent n and m bytes, or as many as there are
 unfoldable pub record_step : ℕ → List ℕ → End → ℕ → ℕ → List ℕ → List ℕ → List ℕ → Step
 record_step k b e n m tx rx buffer =
     pick (eqb k 32 || eqb k 33) (nothing e n m)
     (pick (eqb k 34) (nothing e (number_at 4 b 0) (number_at 4 b 4))
-    (pick (eqb k 22) (turned (turn_of e (take m rx) (number_at 4 b 0)) n m)
-    (called (call_outcome e k b (take n tx) (take m rx) buffer) n m)))
+    (called (call_outcome e k b (take n tx) (take m rx) buffer) n m))
 
 -- the body of a write: an offset of four bytes, and the bytes; what the memory has of it changes
 abbrev pub overwritten : List ℕ → List ℕ → List ℕ
@@ -77,18 +72,6 @@ pub record Leaves (k : ℕ) (b : List ℕ) (o : Outcome) (tx rx buffer tx' rx' b
   pub receive : rx' ≡ rx_after k b o rx
   pub buffered : buffer' ≡ buffer_after k o buffer
 
--- a turn leaves the m receive bytes that it is lent, or as many as there are, as its rule says
-pub record TurnLeaves (t : Turn) (m : ℕ) (tx rx buffer tx' rx' buffer' : List ℕ) : Type 0 where
-  pub transmit : tx' ≡ tx
-  pub receive : rx' ≡ t.rx ++ dropped m rx
-  pub buffered : buffer' ≡ buffer
-
--- what a record of kind k leaves of the memory, where calls are lent n and m bytes
-abbrev pub RecordLeaves : ℕ → List ℕ → End → ℕ → ℕ → List ℕ → List ℕ → List ℕ → List ℕ → List ℕ → List ℕ → Type 0
-RecordLeaves k b e n m tx rx buffer tx' rx' buffer' =
-    pick (eqb k 22) (TurnLeaves (turn_of e (take m rx) (number_at 4 b 0)) m tx rx buffer tx' rx' buffer')
-    (Leaves k b (call_outcome e k b (take n tx) (take m rx) buffer) tx rx buffer tx' rx' buffer')
-
 -- ---- what the code has, and answers
 
 -- the lent bytes are those of an outcome's writes; of the transmit bytes after a room nothing is said
@@ -100,7 +83,6 @@ pub record Wrote (k : ℕ) (o : Outcome) (tx rx buffer tx' rx' buffer' : List �
 -- a record that is a call, with a body of n bytes
 pub record IsCall (k n : ℕ) : Type 0 where
   pub body : has k n ≡ true
-  pub not22 : k ≡ 22 → ⊥
   pub not32 : k ≡ 32 → ⊥
   pub not33 : k ≡ 33 → ⊥
   pub not34 : k ≡ 34 → ⊥
@@ -109,11 +91,6 @@ pub record IsCall (k n : ℕ) : Type 0 where
 pub record RanAs (r : Ran) (o : Outcome) : Type 0 where
   pub reply : r.reply ≡ reply_of o
   pub end : end_of r.end ≡ o.next
-
--- and of a turn
-pub record TurnedAs (r : Ran) (t : Turn) : Type 0 where
-  pub reply : r.reply ≡ turn_reply t.taken t.stop
-  pub end : end_of r.end ≡ t.next
 
 abbrev pub step_of : Stepped → Step
 step_of r = record { reply = r.reply; end = end_of r.end; lent_tx = r.lent.tx; lent_rx = r.lent.rx }

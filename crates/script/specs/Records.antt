@@ -35,7 +35,7 @@ bytes_of b = b.end - b.begin
 unfoldable pub body_of : ℕ → Body
 body_of k =
     pick (eqb k 0 || (eqb k 1 || eqb k 6)) Any
-    (pick (eqb k 2 || (eqb k 4 || (eqb k 5 || (eqb k 18 || (eqb k 19 || eqb k 22))))) (Exactly 4)
+    (pick (eqb k 2 || (eqb k 4 || (eqb k 5 || (eqb k 18 || eqb k 19)))) (Exactly 4)
     (pick (eqb k 3) (Exactly 12)
     (pick (eqb k 16) (Exactly 0)
     (pick (eqb k 17) (Exactly 2)

@@ -3,7 +3,6 @@ use Rattle.std.specs.Prelude.{ℕ, suc, ◌+◌, ◌*◌, ◌%◌, List, [], ◌
 use Rattle.blocks.specs.Tables.{free_blocks}
 use Rattle.icbmsg.specs.Regions.{block_count}
 use Rattle.icbmsg.specs.Outcome.{Given, nothing, a_length, dropped, a_run, control, delivery, Outcome}
-use Rattle.icbmsg.specs.Turns.{Stop, reached, at_pull, at_arrival, Turn}
 use Rattle.icbmsg.specs.End.{End}
 
 -- the values of what is given, and a number for it: what was dropped stands behind the length 0
@@ -32,33 +31,6 @@ reply n g b z = reply_with n (values_of g) b z (given_number g)
 
 abbrev pub reply_of : Outcome → List ℕ
 reply_of o = reply o.number o.given o.begin o.size
-
--- of a turn: the number of the pull that stopped it, else 0; how many packets it took, and behind that what comes with its stop; and why it stopped
-abbrev pub stop_number : Stop → ℕ
-stop_number reached = 0
-stop_number (at_pull n g) = n
-stop_number (at_arrival g) = 0
-
-abbrev pub dropped_in : Given → List ℕ
-dropped_in nothing = []
-dropped_in (a_length k) = []
-dropped_in (dropped n) = n ∷ []
-dropped_in (a_run s n) = []
-dropped_in (control k a b) = []
-dropped_in (delivery a b k) = []
-
-abbrev pub stop_values : Stop → List ℕ
-stop_values reached = []
-stop_values (at_pull n g) = dropped_in g
-stop_values (at_arrival g) = values_of g
-
-abbrev pub stop_given : Stop → ℕ
-stop_given reached = 5
-stop_given (at_pull n g) = 0
-stop_given (at_arrival g) = given_number g
-
-abbrev pub turn_reply : ℕ → Stop → List ℕ
-turn_reply n s = reply_with (stop_number s) (n ∷ stop_values s) 0 0 (stop_given s)
 
 -- every byte times its position plus 1, of bytes from position p on
 unfoldable pub weighted : ℕ → List ℕ → ℕ

@@ -7,7 +7,7 @@ use Rattle.icbmsg.specs.End.{End}
 use Rattle.link.specs.Answers.{end_of}
 use Rattle.script.specs.Rows.{row_of}
 use Rattle.script.specs.Records.{begun, bytes_of, first_record}
-use Rattle.script.specs.Calls.{Step, called, record_step, RecordLeaves}
+use Rattle.script.specs.Calls.{call_outcome, Step, called, record_step, Leaves}
 use Rattle.script.specs.declared.records.Begun.TheVariants.{Short, Opening as Begins}
 use Rattle.script.specs.declared.records.Next.TheVariants.{Stop, Whole}
 use Rattle.script.specs.declared.Left.{Left}
@@ -28,14 +28,18 @@ pub record Result : Type 0 where
   pub rx : List ℕ
   pub buffer : List ℕ
 
-abbrev pub result : ℕ → List ℕ → List ℕ → List ℕ → List ℕ → Result
-result w out tx rx buffer = record { written = w; out = out; tx = tx; rx = rx; buffer = buffer }
+abbrev pub result_of : ℕ → List ℕ → List ℕ → List ℕ → List ℕ → Result
+result_of w out tx rx buffer = record { written = w; out = out; tx = tx; rx = rx; buffer = buffer }
+
+-- what a record of kind k leaves of the memory, where calls are lent n and m bytes
+abbrev pub RecordLeaves : ℕ → List ℕ → End → ℕ → ℕ → List ℕ → List ℕ → List ℕ → List ℕ → List ℕ → List ℕ → Type 0
+RecordLeaves k b e n m tx rx buffer tx' rx' buffer' = Leaves k b (call_outcome e k b (take n tx) (take m rx) buffer) tx rx buffer tx' rx' buffer'
 
 -- The rows of the records that s begins with, behind the w bytes of `out` that are written, and how the run ends. It goes on where a record of
 -- the format is whole and its row fits.
 pub data Rows : List ℕ → ℕ → End → ℕ → ℕ → List ℕ → List ℕ → List ℕ → List ℕ → Result → Type 0 where
-  full : {s : List ℕ} {w : ℕ} {e : End} {n m : ℕ} {tx rx buffer out : List ℕ} → length out < w + 56 → Rows s w e n m tx rx buffer out (result w out tx rx buffer)
-  stops : {s : List ℕ} {w : ℕ} {e : End} {n m : ℕ} {tx rx buffer out : List ℕ} → first_record s ≡ Stop → Rows s w e n m tx rx buffer out (result w out tx rx buffer)
+  full : {s : List ℕ} {w : ℕ} {e : End} {n m : ℕ} {tx rx buffer out : List ℕ} → length out < w + 56 → Rows s w e n m tx rx buffer out (result_of w out tx rx buffer)
+  stops : {s : List ℕ} {w : ℕ} {e : End} {n m : ℕ} {tx rx buffer out : List ℕ} → first_record s ≡ Stop → Rows s w e n m tx rx buffer out (result_of w out tx rx buffer)
   goes : {s : List ℕ} {w : ℕ} {e : End} {n m : ℕ} {tx rx buffer out : List ℕ} {r : Result} (k l : ℕ) (tx' rx' buffer' : List ℕ) →
       first_record s ≡ Whole k l → w + 56 ≤ length out → RecordLeaves k (take l (drop 3 s)) e n m tx rx buffer tx' rx' buffer' →
       (d : Step) → d ≡ record_step k (take l (drop 3 s)) e n m tx rx buffer →
@@ -44,8 +48,8 @@ pub data Rows : List ℕ → ℕ → End → ℕ → ℕ → List ℕ → List �
 -- A run of the script s: a row for its opening, and then the rows of its records. Nothing is written where s is shorter than an opening, or
 -- no row fits.
 pub data Runs (s tx rx buffer out : List ℕ) : Result → Type 0 where
-  short : begun s ≡ Short → Runs s tx rx buffer out (result 0 out tx rx buffer)
-  narrow : length out < 56 → Runs s tx rx buffer out (result 0 out tx rx buffer)
+  short : begun s ≡ Short → Runs s tx rx buffer out (result_of 0 out tx rx buffer)
+  narrow : length out < 56 → Runs s tx rx buffer out (result_of 0 out tx rx buffer)
   runs : {r : Result} (o : Opening) → begun s ≡ Begins o → 56 ≤ length out →
       Rows (drop 22 s) 56 (opening_step o).end (opening_step o).lent_tx (opening_step o).lent_rx tx rx buffer (with_row out 0 (opening_step o) tx rx buffer) r → Runs s tx rx buffer out r
 

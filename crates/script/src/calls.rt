@@ -3,11 +3,10 @@ ghost use Rattle.std.specs.Prelude.{◌≡◌, true, ◌≤◌, length, take};
 ghost use Rattle.wire.specs.Bytes.{wrote};
 ghost use Rattle.icbmsg.specs.Messages.{room_of, view_of};
 ghost use Rattle.icbmsg.specs.Calls.{step as stepRule, pull as pull_call};
-ghost use Rattle.icbmsg.specs.Turns.{turn_of};
 ghost use Rattle.link.specs.Answers.{answer_number, answer_given, end_of, answered, pushed_of, called_of, registered_of, ring_called_of};
 ghost use Rattle.script.specs.Rows.{reply};
 ghost use Rattle.script.specs.Records.{has};
-ghost use Rattle.script.specs.Calls.{IsCall, RanAs, TurnedAs, Wrote, call_outcome, overwritten, RecordLeaves, record_step, step_of};
+ghost use Rattle.script.specs.Calls.{IsCall, RanAs, Wrote, call_outcome, overwritten, Leaves, record_step, step_of};
 
 use crate::{kinds, rows};
 use link::{Answer, Called, End, Place, Pushed, Registered, RingCalled};
@@ -21,7 +20,7 @@ pub struct Lent {
 }
 
 // What a record answers, and what it leaves.
-#[derive(Drop)]
+#[derive(Clone, Copy)]
 pub struct Stepped {
     pub reply: [u32; 9],
     pub end: End,
@@ -29,7 +28,7 @@ pub struct Stepped {
 }
 
 // What a call answers, and the end that it leaves.
-#[derive(Drop)]
+#[derive(Clone, Copy)]
 pub struct Ran {
     pub reply: [u32; 9],
     pub end: End,
@@ -126,20 +125,6 @@ fn pull(end: End, rx: &mut [u8], buffer: &mut [u8], n: u32) -> Ran
     of_ring_call(pulled, end)
 }
 
-// One service turn.
-fn turn(mut end: End, rx: &mut [u8], most: u32) -> Ran
-    ensures answer { TurnedAs result (turn_of (end_of end) rx.old most) }
-    ensures rx { rx.new ≡ (turn_of (end_of end) rx.old most).rx }
-{
-    let endpoints = end.endpoints;
-    let bindings = end.bindings;
-    let turned = End::turn(end.numbers, endpoints, bindings, &mut end.tables, rx, most);
-    let stop = turned.stop;
-    let reply = rows::turned(turned.taken, stop);
-    let left = turned.applied(end);
-    Ran { reply, end: left }
-}
-
 // The call of a record, with what it is lent.
 fn call(mut end: End, kind: u8, body: &[u8], tx: &mut [u8], rx: &mut [u8], buffer: &mut [u8]) -> Ran
     requires { IsCall kind (length body.now) }
@@ -203,7 +188,7 @@ pub(super) fn step(
 ) -> Stepped
     requires { has kind (length body.now) ≡ true }
     ensures answer { step_of result ≡ record_step kind body.now (end_of end) lent.tx lent.rx tx.old rx.old buffer.old }
-    ensures memory { RecordLeaves kind body.now (end_of end) lent.tx lent.rx tx.old rx.old buffer.old tx.new rx.new buffer.new }
+    ensures memory { Leaves kind body.now (call_outcome (end_of end) kind body.now (take lent.tx tx.old) (take lent.rx rx.old) buffer.old) tx.old rx.old buffer.old tx.new rx.new buffer.new }
 {
     match kind {
         kinds::WRITE_RX => {
@@ -230,17 +215,6 @@ pub(super) fn step(
                 rx: read_u32(body, 4) as usize,
             },
         },
-        kinds::TURN => {
-            let m = wire::least(lent.rx, rx.len());
-            let ran = turn(end, &mut rx[..m], read_u32(body, 0));
-            let reply = ran.reply;
-            let left = ran.end;
-            Stepped {
-                reply,
-                end: left,
-                lent,
-            }
-        }
         _ => {
             let n = wire::least(lent.tx, tx.len());
             let m = wire::least(lent.rx, rx.len());

@@ -28,8 +28,6 @@ pub const ROOM_QUESTION: u8 = 20;
 
 pub const VIEW_QUESTION: u8 = 21;
 
-pub const TURN: u8 = 22;
-
 pub const WRITE_RX: u8 = 32;
 
 pub const WRITE_TX: u8 = 33;
@@ -58,7 +56,6 @@ pub fn body_of(kind: u8) -> Body
         DONE => Body::Exactly(4),
         ROOM => Body::Exactly(4),
         VIEW => Body::Exactly(4),
-        TURN => Body::Exactly(4),
         SEND => Body::Exactly(12),
         START => Body::Exactly(0),
         PULL => Body::Exactly(2),

@@ -8,7 +8,7 @@ mod rows;
 
 ghost use Rattle.std.specs.Prelude.{true, ◌≡◌, ◌+◌, ◌≤◌, length, drop};
 ghost use Rattle.script.specs.Records.{has};
-ghost use Rattle.script.specs.Script.{opening_step, with_row, result, RowsFrom, Runs, IsLeft, left_step, LeftLeaves};
+ghost use Rattle.script.specs.Script.{opening_step, with_row, result_of, RowsFrom, Runs, IsLeft, left_step, LeftLeaves};
 
 use calls::Lent;
 use icbmsg::Opening;
@@ -16,7 +16,7 @@ use link::End;
 use records::{Begun, Next};
 
 // What a record leaves beside the memory.
-#[derive(Drop)]
+#[derive(Clone, Copy)]
 pub struct Left {
     pub end: End,
     pub lent: Lent,
@@ -25,8 +25,8 @@ pub struct Left {
 // Opens an end, and writes its row.
 fn open(opening: Opening, tx: &[u8], rx: &[u8], buffer: &[u8], out: &mut [u8]) -> Left
     requires { 56 ≤ length out.old }
-    ensures* left { λ r. ⌜ IsLeft r (opening_step opening) ⌝ }
-    ensures* out { λ _. ⌜ out.new ≡ with_row out.old 0 (opening_step opening) tx.now rx.now buffer.now ⌝ }
+    ensures left { IsLeft result (opening_step opening) }
+    ensures out { out.new ≡ with_row out.old 0 (opening_step opening) tx.now rx.now buffer.now }
 {
     let called = End::open(opening);
     let answer = called.answer;
@@ -52,9 +52,9 @@ fn run_record(
     p: usize,
 ) -> Left
     requires { (has kind (length body.now) ≡ true) × (p + 56 ≤ length out.old) }
-    ensures* left { λ r. ⌜ IsLeft r (left_step left kind body.now tx.old rx.old buffer.old) ⌝ }
-    ensures* memory { λ _. ⌜ LeftLeaves left kind body.now tx.old rx.old buffer.old tx.new rx.new buffer.new ⌝ }
-    ensures* out { λ _. ⌜ out.new ≡ with_row out.old p (left_step left kind body.now tx.old rx.old buffer.old) tx.new rx.new buffer.new ⌝ }
+    ensures left { IsLeft result (left_step left kind body.now tx.old rx.old buffer.old) }
+    ensures memory { LeftLeaves left kind body.now tx.old rx.old buffer.old tx.new rx.new buffer.new }
+    ensures out { out.new ≡ with_row out.old p (left_step left kind body.now tx.old rx.old buffer.old) tx.new rx.new buffer.new }
 {
     let before = left.end;
     let before_lent = left.lent;
@@ -77,8 +77,8 @@ fn run_records(
     out: &mut [u8],
 ) -> usize
     requires { (22 ≤ length script.now) × (56 ≤ length out.old) }
-    ensures* rows { λ r. ⌜ RowsFrom (drop 22 script.now) 56 opened tx.old rx.old buffer.old out.old (result r out.new tx.new rx.new buffer.new) ⌝ }
-    ensures* fits { λ r. ⌜ r ≤ length out.old ⌝ }
+    ensures rows { RowsFrom (drop 22 script.now) 56 opened tx.old rx.old buffer.old out.old (result_of result out.new tx.new rx.new buffer.new) }
+    ensures fits { result ≤ length out.old }
 {
     let mut left = opened;
     let mut at = records::OPENING;
@@ -98,8 +98,8 @@ fn run_records(
 // Opens an end and runs the records on it. Writes a row of 14 numbers to `out` for the opening and for each record, and answers how many
 // bytes it wrote. Stops before a record that is not whole, that the format does not have, or whose row does not fit.
 pub fn run(script: &[u8], tx: &mut [u8], rx: &mut [u8], buffer: &mut [u8], out: &mut [u8]) -> usize
-    ensures* run { λ r. ⌜ Runs script.now tx.old rx.old buffer.old out.old (result r out.new tx.new rx.new buffer.new) ⌝ }
-    ensures* fits { λ r. ⌜ r ≤ length out.old ⌝ }
+    ensures run { Runs script.now tx.old rx.old buffer.old out.old (result_of result out.new tx.new rx.new buffer.new) }
+    ensures fits { result ≤ length out.old }
 {
     let Begun::Opening(opening) = records::opening(script) else {
         return 0;
@@ -109,19 +109,4 @@ pub fn run(script: &[u8], tx: &mut [u8], rx: &mut [u8], buffer: &mut [u8], out: 
     }
     let left = open(opening, tx, rx, buffer, out);
     run_records(left, script, tx, rx, buffer, out)
-}
-
-// `run` for C, where a slice is a pointer and a length.
-#[unsafe(no_mangle)]
-pub extern "C" fn petrelknob_script(
-    script: &[u8],
-    tx: &mut [u8],
-    rx: &mut [u8],
-    buffer: &mut [u8],
-    out: &mut [u8],
-) -> usize
-    ensures* run { λ r. ⌜ Runs script.now tx.old rx.old buffer.old out.old (result r out.new tx.new rx.new buffer.new) ⌝ }
-    ensures* fits { λ r. ⌜ r ≤ length out.old ⌝ }
-{
-    run(script, tx, rx, buffer, out)
 }

@@ -1,10 +1,9 @@
 // A row: the 14 numbers that a script gives for its opening and for each record.
 ghost use Rattle.std.specs.Prelude.{◌≡◌, ◌+◌, ◌≤◌, ◌<◌, length};
 ghost use Rattle.link.specs.Answers.{end_of, answer_number, answer_given, packet_number, packet_given};
-ghost use Rattle.link.specs.Turns.{stop_of};
-ghost use Rattle.script.specs.Rows.{reply, turn_reply, weighted, sum as sumRule, row_of};
+ghost use Rattle.script.specs.Rows.{reply, weighted, sum as sumRule, row_of};
 
-use link::{Answer, End, PacketAnswer, Stop};
+use link::{Answer, End, PacketAnswer};
 
 // Bytes of a row.
 pub const BYTES: usize = 56;
@@ -39,37 +38,6 @@ pub fn ring_answered(a: PacketAnswer) -> [u32; 9]
         PacketAnswer::Length(k) => [0, 1, k, 0, 0, 0, 0, 0, 1],
         PacketAnswer::Dropped(n) => [9, 2, 0, n, 0, 0, 0, 0, 1],
         PacketAnswer::Refused(x) => [x.number(), 1, 0, 0, 0, 0, 0, 0, 1],
-    }
-}
-
-// Of a turn: how many packets it took, and what comes with its stop.
-pub fn turned(taken: u32, stop: Stop) -> [u32; 9]
-    ensures { result ≡ turn_reply taken (stop_of stop) }
-{
-    match stop {
-        Stop::Reached => [0, 1, taken, 0, 0, 0, 0, 0, 5],
-        Stop::Refused(x) => [x.number(), 1, taken, 0, 0, 0, 0, 0, 0],
-        Stop::Dropped(n) => [9, 2, taken, n, 0, 0, 0, 0, 0],
-        Stop::Delivered {
-            address,
-            block,
-            length,
-        } => [0, 4, taken, address as u32, block as u32, length, 0, 0, 4],
-        Stop::Reply {
-            kind,
-            address,
-            block,
-        } => [
-            0,
-            4,
-            taken,
-            kind as u32,
-            address as u32,
-            block as u32,
-            0,
-            0,
-            3,
-        ],
     }
 }
 

@@ -7,7 +7,6 @@ use mathlib.Core.Logic.{◌≢◌}
 use native.Mathlib.Omega.{arith}
 use lib.ListN.{length}
 use Rattle.wire.specs.Choice.{pick}
-use Rattle.wire.proofs.Choices.{both}
 use Rattle.sheet.specs.Sheets.{Part, nowhere, part, is_path, is_sheet, place_of}
 use Rattle.sheet.specs.Picks.{Outcome, refused, chosen, first, pick_of, place_in, outcome_of}
 use Rattle.sheet.specs.declared.Place.{Place}

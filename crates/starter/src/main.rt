@@ -22,7 +22,7 @@ const TO_PANEL: Bounds = Bounds {
 };
 
 // One core: its end, and whether it goes on.
-#[derive(Drop)]
+#[derive(Clone, Copy)]
 struct Core {
     end: End,
     going: bool,

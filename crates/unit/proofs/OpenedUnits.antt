@@ -1,16 +1,16 @@
 -- What an accepted opening gives: rings that lie in their regions, and a start that is accepted.
-use Prim.Native.Nat.{ℕ, zero, suc, ◌+◌, ◌-◌, ◌%◌, ◌≤◌, ◌<◌}
+use Prim.Native.Nat.{ℕ, zero, suc, ◌-◌, ◌≤◌}
 use mathlib.Core.Bool.{Bool, true, false, ◌||◌}
-use mathlib.Core.Path.{◌≡◌, refl, sym, ap, ◌∙◌}
+use mathlib.Core.Path.{◌≡◌, refl, ap}
 use native.Mathlib.Nat.{mod-eq_of_lt}
 use native.Mathlib.Omega.{arith}
 use lib.Dec.{leb}
-use borrow.Author.Tests.{eq-eqb, le-leb, lt-ltb}
-use Rattle.wire.specs.Choice.{check, passed}
+use borrow.Author.Tests.{le-leb, lt-ltb}
+use Rattle.wire.specs.Choice.{passed}
 use Rattle.wire.proofs.Choices.{check-passed}
 use Rattle.region.specs.Layout.{plain}
 use Rattle.region.proofs.PlainLayouts.{accepted_plain}
-use Rattle.icmsg.specs.Ring.{in_rule, used, packet_length, behind}
+use Rattle.icmsg.specs.Ring.{in_rule, packet_length, behind}
 use Rattle.icmsg.specs.Rules.{accepted, fit_number, push_number, start_rule}
 use Rattle.icmsg.specs.Laws.{Sound}
 use Rattle.icmsg.specs.Unread.{Small}

@@ -1,5 +1,5 @@
 -- Two units with swapped regions: each way's ring holds just what was sent and not yet received.
-use Prim.Native.Nat.{ℕ, suc, ◌+◌, ◌-◌, ◌≤◌, ◌<◌}
+use Prim.Native.Nat.{ℕ, suc, ◌-◌, ◌≤◌}
 use mathlib.Core.Bool.{Bool, true, false, false≢true}
 use mathlib.Core.Path.{◌≡◌, refl, sym, ap, subst, ◌∙◌}
 use mathlib.Core.List.{List, [], ◌∷◌, ◌++◌, append_assoc}
@@ -13,16 +13,16 @@ use Rattle.wire.specs.Reads.{answer}
 use Rattle.wire.proofs.Positions.{length-wrote}
 use Rattle.region.specs.Layout.{plain}
 use Rattle.icmsg.specs.Ring.{data_length, behind, start_content}
-use Rattle.icmsg.specs.Rules.{Answer, refused, accepted, dropped, answer_number, length_in, Outcome, refusal, push_rule, start_rule, read_to, pull_rule, receive_rule}
+use Rattle.icmsg.specs.Rules.{Answer, refused, accepted, dropped, Outcome, refusal, push_rule, start_rule, read_to, pull_rule}
 use Rattle.icmsg.specs.Laws.{PlainAt, Plain, unless_short}
 use Rattle.icmsg.specs.Unread.{unread, Holds, Small}
 use Rattle.icmsg.specs.declared.Ring.{Ring}
 use Rattle.icmsg.proofs.Pulls.{receive_pulls}
 use Rattle.icmsg.proofs.Indexes.{refusals as ring_refusals}
 use Rattle.icmsg.proofs.UnreadPackets.{unread_packets}
-use Rattle.unit.specs.Opening.{region, fresh, opening}
+use Rattle.unit.specs.Opening.{region, fresh}
 use Rattle.unit.specs.Rules.{ring_of, transmit_ring, receive_ring, start_of, push_of, receive_of, with_write, with_read}
-use Rattle.unit.specs.TwoUnits.{Way, Pair, swap, Call, start, push, receive, logged, copied, said, heard, turn, run, starts, InTurn, EachOnce, started_here, started_there, GivesNext, InOrder, swapped, opened, TwoUnits}
+use Rattle.unit.specs.TwoUnits.{Way, Pair, swap, Call, start, push, receive, copied, said, heard, turn, run, starts, InTurn, EachOnce, started_here, started_there, GivesNext, InOrder, opened, TwoUnits}
 use Rattle.unit.specs.declared.Bounds.{Bounds}
 use Rattle.unit.specs.declared.Opening.{Opening}
 use Rattle.unit.specs.declared.Unit.{Unit}

@@ -1,5 +1,5 @@
 -- What holds of every unit and every call on it, and of every unit that a list of calls from an opening leaves.
-use Rattle.std.specs.Prelude.{ℕ, Bool, ◌&&◌, ◌≡◌, ◌≢◌, List, eqb, length}
+use Rattle.std.specs.Prelude.{ℕ, Bool, ◌&&◌, ◌≡◌, ◌≢◌, List, eqb}
 use Rattle.wire.specs.Bytes.{Inside}
 use Rattle.icmsg.specs.Ring.{data_length, write_index_at, index_at, is_sound, used}
 use Rattle.icmsg.specs.Rules.{refused, accepted, answer_number, refusal, dropping}

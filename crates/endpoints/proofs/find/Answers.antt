@@ -1,4 +1,3 @@
-use Prim.Native.Nat.{◌-◌}
 use mathlib.Core.Path.{sym, ◌∙◌}
 use Rattle.blocks.proofs.Loops.{first_skip, first_hit, first_out}
 use Rattle.endpoints.specs.Endpoints.{endpoint_test, no_endpoint}

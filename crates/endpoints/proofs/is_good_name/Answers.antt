@@ -1,4 +1,3 @@
-use Prim.Native.Nat.{◌-◌}
 use native.Mathlib.Omega.{arith}
 use Rattle.endpoints.proofs.GoodNames.{none_yet, none_more, too_short, too_long, has-zero, is_good}
 use borrow.Author.Rules.{rules}

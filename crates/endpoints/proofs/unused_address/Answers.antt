@@ -1,4 +1,3 @@
-use Prim.Native.Nat.{◌-◌}
 use mathlib.Core.Path.{sym, ◌∙◌}
 use Rattle.endpoints.proofs.Unused.{in_use, is_unused, none_unused}
 use borrow.Author.Rules.{rules}

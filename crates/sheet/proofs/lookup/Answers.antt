@@ -1,4 +1,3 @@
-use Prim.Native.Nat.{◌-◌}
 use mathlib.Core.Path.{sym}
 use Rattle.sheet.proofs.Paths.{follow_begins, follow_ends, follow_nowhere, follow_on}
 use Rattle.sheet.proofs.lookup.Goals as goal

@@ -1,4 +1,3 @@
-use Prim.Native.Nat.{◌-◌}
 use Rattle.blocks.proofs.Scanning.{scan_begins, scan_next, scan_found, scan_ends}
 use borrow.Author.Rules.{rules}
 use Rattle.blocks.proofs.framing.name_length.Goals as goal

@@ -1,0 +1,20 @@
+use native.Mathlib.Omega.{arith}
+use lib.ListN.{take, length-take}
+use Rattle.region.specs.Layout.{outcome_of}
+use Rattle.icmsg.specs.Rules.{push_rule}
+use Rattle.panel.specs.Calls.{ring_in, push_call}
+use Rattle.panel.proofs.Opening.{layout-lies, call_is, long_enough}
+use Rattle.panel.proofs.petrelknob_push.Goals as goal
+
+pub open_ring-opened-requires : goal.open_ring-opened-requires
+open_ring-opened-requires c = rw c.layout-y.ensures (layout-lies _ _ _ _ _)
+
+pub slice_bounds-push_on-end : goal.slice_bounds-push_on-end
+slice_bounds-push_on-end c = simp length-take (omega arith)
+
+pub returns : goal.returns
+unfolding push_call
+returns c =
+    let a = c.args in
+    let enough = long_enough a.region.now (ring_in (outcome_of c.layout-y.result) a.begin a.alignment) a.own a.content.now c.least-k.result c.least-k.ensures.0 in
+    rw (← c.layout-y.ensures, ← enough, ← call_is c.open_ring-opened.result _ _ (λ g. push_rule a.region.now g a.own (take c.least-k.result a.content.now)) c.open_ring-opened.ensures.number c.open_ring-opened.ensures.ring) (record { number = c.push_on.ensures.number; region = c.push_on.ensures.region; numbers = c.push_on.ensures.numbers })

@@ -1,0 +1,19 @@
+use Prim.Native.Nat.{◌-◌}
+use mathlib.Core.Path.{◌≡◌, refl, ◌∙◌}
+use native.Mathlib.Nat.{min_comm}
+use native.Mathlib.Omega.{arith}
+use lib.ListN.{length}
+use Rattle.panel.proofs.Answers.{none_yet, one_more_that_fits, all_that_fit}
+use Rattle.panel.proofs.put_numbers.Goals as goal
+
+pub loop-i-init : goal.loop-i-init
+loop-i-init c = (omega arith, (none_yet _ _, refl))
+
+pub loop-i-preserved : goal.loop-i-preserved
+loop-i-preserved c =
+    (omega arith, (c.put_at.ensures ∙ rw c.loop-i.invariant.1.0 (one_more_that_fits _ _ _), omega arith))
+
+pub returns : goal.returns
+returns c =
+    let all : c.loop-i.i ≡ length c.args.numbers.now = omega arith in
+    c.loop-i.invariant.1.0 ∙ all_that_fit _ _ _ (rw all (min_comm _ _))

@@ -1,0 +1,68 @@
+use Prim.Native.Nat.{◌+◌, ◌-◌, ◌≤◌}
+use mathlib.Core.Path.{sym, ap, ◌∙◌}
+use native.Mathlib.Omega.{arith}
+use lib.ListN.{length, take, drop}
+use Rattle.script.specs.Records.{first_record}
+use Rattle.script.specs.Script.{full, stops}
+use Rattle.script.proofs.RowByRow.{whole-rest, one_row}
+use Rattle.script.proofs.FirstRecord.{Found, record_found, record_inside, body-length}
+use borrow.Author.Rules.{rules}
+use Rattle.script.proofs.run_records.Goals as goal
+use Rattle.script.proofs.run_records.Goals.{In-Whole}
+
+-- the record lies in the script, and the format has it
+found : (c : In-Whole) → let s = c.args.script.now in
+    Found (take (length s - c.loop-out.at) (drop c.loop-out.at s)) c.in-Whole.kind c.in-Whole.length
+found c = record_found _ _ _ (sym c.first_record.ensures ∙ c.in-Whole.is)
+
+fits : (c : In-Whole) → c.loop-out.at + (c.in-Whole.length + 3) ≤ length c.args.script.now
+fits c =
+    let found : let s = c.args.script.now in
+    Found (take (length s - c.loop-out.at) (drop c.loop-out.at s)) c.in-Whole.kind c.in-Whole.length = record_found _ _ _ (sym c.first_record.ensures ∙ c.in-Whole.is) in
+    record_inside c.args.script.now c.loop-out.at c.in-Whole.length c.loop-out.invariant.1 found.inside
+
+pub loop-out-init : goal.loop-out-init
+loop-out-init c = ((λ r h. h), search rules, search rules, search rules, search rules, search rules, search rules, search rules)
+
+pub returns-in_default : goal.returns-in_default
+returns-in_default c =
+    let e = whole-rest c.args.script.now c.loop-out.at in
+    record { rows = c.loop-out.invariant.0 _ (stops (ap first_record (sym e) ∙ sym c.first_record.ensures ∙ c.in_default.is)); fits = search rules }
+
+pub overflow_add-at : goal.overflow_add-at
+overflow_add-at c = omega (arith, fits c)
+
+pub slice_bounds-run_record-end : goal.slice_bounds-run_record-end
+slice_bounds-run_record-end c = omega (arith, fits c)
+
+pub run_record-left-requires : goal.run_record-left-requires
+run_record-left-requires c =
+    let t = c.loop-out-test.true in
+    (rw (body-length c.args.script.now (c.loop-out.at + 3) c.in-Whole.length (omega (arith, fits (goal.at.run_record-left-requires c).In-Whole))) (found (goal.at.run_record-left-requires c).In-Whole).body, omega arith)
+
+pub overflow_add-written : goal.overflow_add-written
+overflow_add-written c =
+    let k = c.run_record-left.auto in
+    let i = c.loop-out.invariant in
+    let t = c.loop-out-test.true in
+    omega arith
+
+pub loop-out-smaller : goal.loop-out-smaller
+loop-out-smaller c =
+    let k = c.run_record-left.auto in
+    let i = c.loop-out.invariant in
+    let t = c.loop-out-test.true in
+    omega arith
+
+pub loop-out-preserved : goal.loop-out-preserved
+loop-out-preserved c =
+    let k = c.run_record-left.auto in
+    let i = c.loop-out.invariant in
+    let t = c.loop-out-test.true in
+    let f = fits (goal.at.loop-out-preserved c).In-Whole in
+    let s = c.args.script.now in
+    ((λ x h. c.loop-out.invariant.0 x (one_row s c.loop-out.at c.in-Whole.kind c.in-Whole.length c.loop-out.written c.loop-out.left c.run_record-left.result c.loop-out.tx c.loop-out.rx c.loop-out.buffer c.loop-out.out _ _ _ _ (sym c.first_record.ensures ∙ c.in-Whole.is) (omega arith) c.run_record-left.ensures.memory c.run_record-left.ensures.left c.run_record-left.ensures.out x h)), omega arith, omega arith, omega arith, omega arith, omega arith, omega arith, omega arith)
+
+pub returns : goal.returns
+returns c =
+    record { rows = c.loop-out.invariant.0 _ (full (omega arith)); fits = search rules }
