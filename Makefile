@@ -4,7 +4,7 @@ SHELL = /bin/bash
 .SHELLFLAGS = -eu -o pipefail -c
 .DEFAULT_GOAL = help
 .SECONDEXPANSION:
-# rt proves several crates at a time by itself, and two of it would write the same files.
+# A second rt would only wait for the first.
 .NOTPARALLEL:
 
 CFLAGS = -std=c99 -O2 -Wall -Wextra -Wpedantic -Werror -Iinclude
@@ -98,28 +98,26 @@ clean: ## remove target/
 # ---- how it is made
 
 # A crate with all that it depends on, and their files. In crates.txt a crate stands behind those that it depends on.
-crates_of = $(sort $(shell awk -F: -v crate=$(1) '{ all = $$1; n = split($$2, needs, " "); \
-  for (i = 1; i <= n; i++) all = all " " reach[needs[i]]; reach[$$1] = all } END { print reach[crate] }' crates.txt))
-files_of = crates.txt $(shell find $(addprefix crates/,$(call crates_of,$(1))) -name '*.rt' -o -name '*.antt')
+crates_of = $(sort $(shell awk -F: -v crate=$(1) '{ name = $$1; sub(/ .*/, "", name); all = name; n = split($$2, needs, " "); \
+  for (i = 1; i <= n; i++) all = all " " reach[needs[i]]; reach[name] = all } END { print reach[crate] }' crates.txt))
+files_of = crates.txt $(shell find $(addprefix crates/,$(call crates_of,$(1))) -name out -prune -o \( -name '*.rt' -o -name '*.antt' \) -print)
 
-# Runs commands of rt, shows a line for each crate that is proved, and keeps all that the checker says.
+# Runs a command of rt in the folder of a crate, and keeps all that the checker says.
 log = target/log/make-$*.log
 define proved
-@mkdir -p target/log
+@mkdir -p target/log $(@D)
 @echo "proving $* and what it is made of (all that the checker says: $(log))"
-@{ $(1); } 2>&1 | tee $(log) | sed -un -e '/(unchanged\|^rt: ok\|has the functions/d' -e 's/^rt: /  /p' || \
-  { echo "rt failed. $(log) ends with:"; tail -n 15 $(log); exit 1; }
+@began=$$SECONDS; (cd crates/$(1) && $(2)) >$(log) 2>&1 || { echo "rt failed. $(log) ends with:"; tail -n 15 $(log); exit 1; }; \
+  cp crates/$(1)/out/$(3) $@ && echo "  $* proved ($$((SECONDS - began)) s): $@"
 endef
 
-target/staticlib/lib%.a: $$(call files_of,$$*)
-	$(call proved,rt check $(filter-out $*,$(call crates_of,$*)) && began=$$SECONDS && \
-	  rt staticlib $* && echo "rt: $* proved ($$((SECONDS - began)) s): $@")
+# `script` is a library for programs in Rattle, and `script_c` what C links of it.
+exports = $(if $(filter script,$(1)),script_c,$(1))
+target/staticlib/lib%.a: $$(call files_of,$$(call exports,$$*))
+	$(call proved,$(call exports,$*),rt lib,lib$(call exports,$*).a)
 
-# rt leaves a program that has not changed as it is, also where it is gone.
 target/bin/%: $$(call files_of,$$*)
-	@test -x $@ || rm -f target/stamp/$*
-	$(call proved,rt check $*)
-	@touch $@
+	$(call proved,$*,rt run,$*)
 
 # Each example is linked with the library whose functions it calls.
 $(addprefix target/examples/,$(shown) hello): $(panel)

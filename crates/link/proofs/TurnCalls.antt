@@ -2,7 +2,7 @@
 use Prim.Native.Nat.{ℕ, suc, ◌+◌, ◌-◌, ◌≤◌, ◌<◌, min}
 use mathlib.Core.Bool.{Bool, true, false}
 use mathlib.Core.Path.{◌≡◌, refl, sym, ap, subst, ◌∙◌}
-use mathlib.Core.List.{List, []}
+use mathlib.Core.List.{List}
 use native.Mathlib.Omega.{arith}
 use lib.Dec.{eqb}
 use lib.ListN.{length, take}
@@ -27,23 +27,22 @@ use Rattle.icbmsg.specs.Ends.{open_numbers, is_open, whole, changed, with_read}
 use Rattle.icbmsg.specs.Rings.{receive_ring, pull_outcome, pull_rule}
 use Rattle.icbmsg.specs.Arrivals.{arrival_rule}
 use Rattle.icbmsg.specs.Calls.{pull, rule, read_from, step}
-use Rattle.icbmsg.specs.Turns.{Stop, reached, at_pull, at_arrival, Turn, turned, Packet as RulePacket, Served, handled, three, pulling, pulled_rx, length_given, handed, arriving, served, behind, turn_from, turn_of}
+use Rattle.icbmsg.specs.Turns.{Stop, reached, at_pull, at_arrival, turned, Packet as RulePacket, Served, handled, three, pulling, pulled_rx, length_given, handed, arriving, served, turn_from, turn_of}
 use Rattle.icbmsg.specs.End.{End}
 use Rattle.icbmsg.specs.declared.Numbers.{Numbers}
 use Rattle.icbmsg.proofs.RulesRead.{pull-answer}
 use Rattle.icbmsg.proofs.Refusals.{open_stays}
 use Rattle.icbmsg.proofs.Turns.{pull_is_6}
 use Rattle.checks.specs.Parts.{joined}
-use Rattle.link.specs.Answers.{packet_number, packet_given, ring_called_of, answer_number, answer_given, called_of}
+use Rattle.link.specs.Answers.{packet_number, packet_given, called_of}
 use Rattle.link.specs.Parts.{OnNumbers, Writes}
-use Rattle.link.specs.Turns.{reading, served_of, LeavesParts, packet_of, stop_of, next_of, counted_in, NextAs, turned_of}
+use Rattle.link.specs.Turns.{reading, served_of, LeavesParts, packet_of, stop_of, next_of, counted_in, NextAs}
 use Rattle.link.specs.declared.PacketAnswer.{PacketAnswer}
 use Rattle.link.specs.declared.Answer.{Answer}
 use Rattle.link.specs.declared.Answer.TheVariants.{Accepted, Run, Control, Delivered, Refused}
 use Rattle.link.specs.declared.RingCalled.{RingCalled}
 use Rattle.link.specs.declared.Called.{Called}
 use Rattle.link.specs.declared.Stop.{Stop as CodeStop}
-use Rattle.link.specs.declared.Turned.{Turned}
 use Rattle.link.specs.declared.turns.Packet.{Packet}
 use Rattle.link.specs.declared.turns.Served.{Served as CodeServed}
 use Rattle.link.specs.declared.turns.Next.{Next}

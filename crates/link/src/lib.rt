@@ -178,8 +178,8 @@ impl Turned {
         end.numbers.read = self.read;
         let endpoints = self.endpoints;
         end.endpoints = endpoints;
-        let bindings = self.bindings;
-        end.bindings = bindings;
+        let stored = self.bindings;
+        end.bindings = stored;
         end
     }
 }
