@@ -17,6 +17,7 @@ use Rattle.wire.proofs.Positions.{positions_on}
 use Rattle.blocks.specs.Search.{Search, nowhere, found_at}
 use Rattle.blocks.specs.Tables.{use_number, entry, in_use, all_free, lowest, free_run, search_of, FoundBelow}
 use Rattle.blocks.specs.OnePass.{uses, searching_from, searching, looked, turns_to, OnePass}
+use Rattle.blocks.proofs.Onward.{onward}
 use Rattle.blocks.proofs.AllFree.{free-next, none_free, held_between}
 use Rattle.blocks.specs.declared.Use.TheVariants.{Free}
 use Rattle.blocks.specs.declared.Entry.{Entry}
@@ -88,10 +89,6 @@ unfolding uses
 use_at [] i = refl
 use_at (x ∷ t) zero = refl
 use_at (x ∷ t) (suc i) = use_at t i
-
--- where a turn leads, by whether its block is free
-abbrev onward : ℕ → ℕ → ℕ → ℕ → Bool → Reads Search
-onward n f run i b = pick b (pick (eqb (suc run) n) (gives (found_at (suc i - n))) (searching_from n f (suc run) (suc i))) (searching_from n f 0 (suc i))
 
 module _ (t : List Entry) (n f run i : ℕ) (b : Bool) (u : in_use Free t i ≡ b) where
   seen : eqb 0 (get_or (uses t) i 0) ≡ b

@@ -1,6 +1,7 @@
 pub mod Claims
 pub mod AllOrNothing
 pub mod BeforeRing
+pub mod PushedReads
 pub mod RulesRead
 pub mod ArrivingBytes
 pub mod Effects

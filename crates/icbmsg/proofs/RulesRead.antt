@@ -1,36 +1,35 @@
 -- Every rule asks for just the bytes that are listed.
-use Prim.Native.Nat.{ℕ, zero, suc, ◌+◌, ◌-◌, min}
+use Prim.Native.Nat.{ℕ, zero, suc, min}
 use mathlib.Core.Bool.{Bool, true, false, not, ◌&&◌}
 use mathlib.Core.Path.{◌≡◌, refl, ap, ◌∙◌}
-use mathlib.Core.List.{List, [], ◌∷◌, ◌++◌, append-nil}
+use mathlib.Core.List.{List, [], ◌∷◌, ◌++◌}
 use lib.Dec.{leb, ltb, eqb}
 use lib.ListN.{length, get_or}
-use Rattle.wire.specs.Choice.{pick, passed, check as tested}
-use Rattle.wire.specs.Bytes.{bytes}
-use Rattle.wire.specs.Reads.{Reads, gives, answer, positions_read, and_then}
-use Rattle.icmsg.specs.Ring.{read_index_at, index_at, in_rule, is_sound, used, packet_length}
-use Rattle.icmsg.specs.Rules.{Answer, refused, accepted, dropped as ringDropped, answer_number, Outcome as RingOutcome, refusal, pushed as ringPushed, push_tree as ringPush, pull_rule as ringPull}
+use Rattle.wire.specs.Choice.{pick}
+use Rattle.wire.specs.Reads.{gives, answer, positions_read}
+use Rattle.icmsg.specs.Rules.{Answer, refused, accepted, dropped as ringDropped, answer_number, Outcome as RingOutcome, push_tree as ringPush, pull_rule as ringPull}
 use Rattle.icmsg.specs.Reading.{past, partner_index, pull_positions, is_one_of}
 use Rattle.icmsg.specs.declared.Ring.{Ring}
 use Rattle.icmsg.proofs.PullReads.{pull_reads_what_is_listed}
 use Rattle.icmsg.proofs.PushReads.{push_reads_the_index}
-use Rattle.icbmsg.specs.Outcome.{Given, nothing, a_length, dropped, a_run, control, delivery, Outcome, ring_refused, Rule, check, guard}
+use Rattle.icbmsg.specs.Outcome.{Outcome, ring_refused, Rule, check, guard}
 use Rattle.blocks.specs.Search.{Search, nowhere, found_at, is_found}
 use Rattle.blocks.specs.Tables.{blocks_for}
 use Rattle.endpoints.specs.Endpoints.{endpoint_at, binding_at, some_endpoint, some_binding, clashes, clashes_stored, waiting_for}
 use Rattle.blocks.specs.Names.{padded_name}
 use Rattle.icbmsg.specs.Ends.{whole, found_or}
-use Rattle.icbmsg.specs.Rings.{transmit_ring, receive_ring, push_outcome, pushed, push_rule, pull_outcome, pulled, pull_rule, handed_on, pushing, all_or_nothing}
+use Rattle.icbmsg.specs.Rings.{transmit_ring, receive_ring, push_outcome, pushed, push_rule, pull_outcome, pulled, pull_rule}
 use Rattle.icbmsg.specs.Arrivals.{decode, header_at, decoded_rule, arrival_rule, bound_rule, bound_sized, bound_named, up_to_zero, fits_area, are_free, receiver, bound_to, binding_stored, data_rule}
 use Rattle.icbmsg.specs.declared.Control.{Control}
 use Rattle.icbmsg.specs.declared.Control.TheVariants.{TooShort, UnknownKind, DataSent, DataReleased, BindingSent, BindingReleased}
 use Rattle.icbmsg.specs.Calls.{start, push, pull, reserve, room, send, drop, arrival, view, done, register, ask_room, ask_view, rule, read_from, step}
-use Rattle.icbmsg.specs.Reading.{size_in, content_at, zero_ended, arrival_reads, push_positions, of_push, reading, RulesRead}
+use Rattle.icbmsg.specs.Reading.{size_in, content_at, zero_ended, arrival_reads, reading, RulesRead}
 use Rattle.icbmsg.specs.Messages.{send_of, done_of}
 use Rattle.icbmsg.specs.Registering.{register_of}
 use Rattle.icbmsg.specs.End.{End}
-use Rattle.icbmsg.proofs.BeforeRing.{ring_sound, BeforeRing, send-before, done-before, register-before}
-use Rattle.wire.proofs.Trees.{answer-unless, answer-read_each, answer-and_then, positions_read-unless, positions_read-and_then}
+use Rattle.icbmsg.proofs.BeforeRing.{send-before, done-before, register-before}
+use Rattle.icbmsg.proofs.PushedReads.{positions_read-map, pushed-reads}
+use Rattle.wire.proofs.Trees.{answer-unless, answer-read_each, answer-and_then, positions_read-unless}
 
 positions_read-guard : (b : Bool) (n : ℕ) (e : End) (t : Rule) (r : List ℕ) → positions_read (guard b n e t) r ≡ pick b (positions_read t r) []
 positions_read-guard true n e t r = refl
@@ -45,9 +44,6 @@ answer-guard true n e t r = refl
 answer-guard false n e t r = refl
 
 -- pull: what the ring reads, past 6
-positions_read-map : {A : Type 0} (t : Reads A) (f : A → Outcome) (r : List ℕ) → positions_read (and_then t (λ a. gives (f a))) r ≡ positions_read t r
-positions_read-map t f r = positions_read-and_then t (λ a. gives (f a)) r ∙ append-nil (positions_read t r)
-
 pub number-pulled : (e : End) (ws bs : List (ℕ × ℕ)) (a : Answer) → (pull_outcome e ws bs a).number ≡ answer_number a
 number-pulled e ws bs (refused n) = refl
 number-pulled e ws bs (accepted k i) = refl
@@ -98,33 +94,6 @@ unfolding rule read_from step reading
 push_reads e tx c =
     rw (push-asks e (length tx) c tx, push-gives e (length tx) c tx)
     (push_cases e (whole e e.tx (length tx)) _ (partner_index (transmit_ring e)) (answer (ringPush (length tx) (transmit_ring e) e.write c) tx) (push_reads_the_index.asks (length tx) (transmit_ring e) e.write c tx))
-
--- a control message: past the checks of its rule the ring's own 6 and 11 do not come up
-control_cases : (e : End) (o : Outcome) (g : Ring) (ps c : List ℕ) (i l : Bool) (k a b : ℕ) → o.given ≡ control k a b → let p : RingOutcome = passed (tested i 7 (tested l 10 0)) (ringPushed [] g e.write c) refusal in
-    ps ≡ push_positions ps (handed_on e o p.region p.answer).number (handed_on e o p.region p.answer).given
-control_cases e o g ps c true true k a b q = rw q
-control_cases e o g ps c true false k a b q = refl
-control_cases e o g ps c false l k a b q = refl
-
-control-reads : (e : End) (tx : List ℕ) (o : Outcome) (k a b : ℕ) → o.given ≡ control k a b → is_sound (length tx) (transmit_ring e) e.write ≡ true →
-    positions_read (pushing e (length tx) o (control k a b)) tx ≡ of_push e (answer (pushing e (length tx) o (control k a b)) tx)
-unfolding ringPush index_at bytes
-control-reads e tx o k a b q h =
-    let r : ℕ = index_at tx (read_index_at (transmit_ring e)) in
-    rw h
-    (control_cases e o (transmit_ring e) (partner_index (transmit_ring e)) (k ∷ a ∷ b ∷ []) (in_rule e.tx.data_length r) (leb (packet_length 3 + used e.tx.data_length r e.write) (e.tx.data_length - 1)) k a b q)
-
-pushed-reads : (e : End) (tx : List ℕ) (o : Outcome) → BeforeRing e (length tx) o → positions_read (all_or_nothing e (length tx) o) tx ≡ of_push e (answer (all_or_nothing e (length tx) o) tx)
-unfolding all_or_nothing
-pushed-reads e tx o z = go o.given refl
-  where
-    go : (g : Given) → o.given ≡ g → positions_read (pushing e (length tx) o g) tx ≡ of_push e (answer (pushing e (length tx) o g) tx)
-    go nothing q = rw (q, z.number)
-    go (a_length k) q = rw q
-    go (dropped n) q = rw q
-    go (a_run s n) q = rw q
-    go (control k a b) q = control-reads e tx o k a b q (ring_sound e (length tx) (z.lent (k ∷ a ∷ b ∷ []) (rw q)))
-    go (delivery a b k) q = rw q
 
 -- kind 0
 data_cases : (a b c f u : Bool) (H : List ℕ) (n : ℕ) → n ≡ pick a (pick b (pick c (pick f (pick u 0 18) 17) 16) 15) 14 →

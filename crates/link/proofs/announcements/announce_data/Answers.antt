@@ -14,10 +14,6 @@ use Rattle.link.proofs.announcements.announce_data.Goals.{After-write_u32}
 long : (c : After-write_u32) → length c.write_u32.new.s ≡ 4
 long c = ap length c.write_u32.ensures ∙ length-wrote _ _
 
-ready : (c : After-write_u32) → c.write_u32.new.s ≡ little_endian 4 c.args.k
-unfolding little_endian
-ready c = c.write_u32.ensures ∙ filled _ _ refl
-
 pub slice_bounds-announce-end : goal.slice_bounds-announce-end
 slice_bounds-announce-end c = sym (long (goal.at.slice_bounds-announce-end c).After-write_u32)
 
@@ -25,6 +21,8 @@ pub announce-requires : goal.announce-requires
 announce-requires c = omega (arith, long (goal.at.announce-requires c).After-write_u32, c.requires)
 
 pub returns : goal.returns
+unfolding little_endian
 returns c =
     let a = c.args in
-    subst (λ (m : List ℕ). HandsOn c.announce.result a.n a.tx.now (writes (straight a.at) m) a.control c.announce.new.tx) (ready (goal.at.returns c).After-write_u32) c.announce.ensures
+    let ready : c.write_u32.new.s ≡ little_endian 4 a.k = c.write_u32.ensures ∙ filled _ _ refl in
+    subst (λ (m : List ℕ). HandsOn c.announce.result a.n a.tx.now (writes (straight a.at) m) a.control c.announce.new.tx) ready c.announce.ensures
