@@ -58,7 +58,7 @@ need-file:
 
 # ---- to test it
 
-test: ## the gate: every proof from nothing, every must-fail edit, every comparison
+test: ## the gate: every proof, every must-fail edit, every comparison
 	.ci/run
 
 # What each example prints is held to the file beside it. Where there is a C++ compiler, the headers are tried with it.
