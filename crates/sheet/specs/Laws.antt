@@ -63,7 +63,7 @@ are_whole zero [] = true
 are_whole zero (t ∷ []) = false
 are_whole zero (t ∷ n ∷ s) = are_whole n s
 
--- a field of the list s that begins at a, whichever it is: whole fields stand before it. From its value on, `goesOn` says the rest.
+-- a field of the list s that begins at a, whichever it is: whole fields stand before it. From its value on, `goes_on` says the rest.
 pub record Field (t a : ℕ) (s : List ℕ) (goesOn : ℕ → List ℕ → Type 0) : Type 0 where
   pub begin : ℕ
   pub bytes : List ℕ
