@@ -64,12 +64,12 @@ are_whole zero (t ∷ []) = false
 are_whole zero (t ∷ n ∷ s) = are_whole n s
 
 -- a field of the list s that begins at a, whichever it is: whole fields stand before it. From its value on, `goes_on` says the rest.
-pub record Field (t a : ℕ) (s : List ℕ) (goesOn : ℕ → List ℕ → Type 0) : Type 0 where
+pub record Field (t a : ℕ) (s : List ℕ) (goes_on : ℕ → List ℕ → Type 0) : Type 0 where
   pub begin : ℕ
   pub bytes : List ℕ
   pub frame : Framed t a s begin bytes
   pub whole : are_whole 0 frame.before ≡ true
-  pub rest : goesOn begin bytes
+  pub rest : goes_on begin bytes
 
 -- the path leads from the list s, which begins at a, to the bytes v at b: from each of its tags to some field that has it
 abbrev pub Leads : List ℕ → ℕ → List ℕ → ℕ → List ℕ → Type 0
