@@ -9,6 +9,7 @@ use native.Mathlib.Numerals.{add-one}
 use lib.Dec.{leb, eqb}
 use lib.ListN.{get_or, length}
 use borrow.Author.Tests.{le-leb, lt-leb, eqb-true, eqb-false, eq-eqb, ne_eqb}
+use Rattle.std.specs.Prelude.{Option, Some, None}
 use Rattle.wire.specs.Choice.{pick}
 use Rattle.wire.specs.Bytes.{straight, positions}
 use Rattle.wire.specs.Reads.{Reads, gives, answer, positions_read}
@@ -21,8 +22,6 @@ use Rattle.blocks.proofs.Onward.{onward}
 use Rattle.blocks.proofs.AllFree.{free-next, none_free, held_between}
 use Rattle.blocks.specs.declared.Use.TheVariants.{Free}
 use Rattle.blocks.specs.declared.Entry.{Entry}
-use Rattle.blocks.specs.declared.Found.{Found}
-use Rattle.blocks.specs.declared.Found.TheVariants.{Nowhere, At}
 
 -- ---- the lowest run, by the starts that no longer serve
 
@@ -194,6 +193,6 @@ module _ (t : List Entry) (c n : ℕ) where
       }
 
 -- what it found lies among the first c
-pub found_below : (r : Found) (c : ℕ) (t : List Entry) (n k : ℕ) → OnePass c t n (search_of r) k → FoundBelow r n c
-found_below Nowhere c t n k h = tt
-found_below (At s) c t n k h = omega (arith, h.ends, h.most)
+pub found_below : (r : Option ℕ) (c : ℕ) (t : List Entry) (n k : ℕ) → OnePass c t n (search_of r) k → FoundBelow r n c
+found_below None c t n k h = tt
+found_below (Some s) c t n k h = omega (arith, h.ends, h.most)

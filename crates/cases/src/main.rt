@@ -2,8 +2,8 @@
 #![tactic(auto)]
 
 use icbmsg::{Bounds, Opening};
-use lines::Line;
-use link::{End, PacketAnswer};
+use lines::Hex;
+use link::{End, PacketError};
 
 // Bytes of a region whose ring minimum leaves 64 data bytes: 4 + 4 + 8 × (3 + 3 + 2), and three blocks of four bytes behind it.
 const REGION: u32 = 84;
@@ -27,41 +27,23 @@ fn opened() -> End {
     opened.end
 }
 
-fn number_of(a: PacketAnswer) -> u32 {
-    match a {
-        PacketAnswer::Length(_) => 0,
-        PacketAnswer::Dropped(_) => 9,
-        PacketAnswer::Refused(x) => x.number(),
+fn number_of(answer: Result<u32, PacketError>) -> u32 {
+    match answer {
+        Ok(_) => 0,
+        Err(PacketError::Dropped(_)) => 9,
+        Err(PacketError::Refused(x)) => x.number(),
     }
 }
 
-// Pushes the control message for data, address 2, block 5, and prints the number of the answer.
-fn push(mut end: End, tx: &mut [u8], i: u32) -> End {
-    let message = [0u8, 2, 5];
-    let before = end.numbers;
-    let pushed = End::push(before, tx, &message);
-    let answer = pushed.answer;
-    let numbers = pushed.numbers;
-    end.numbers = numbers;
-    let line = Line::new().text(b"packet ").number(i).text(b" is ");
-    line.number(number_of(answer)).print();
-    end
-}
-
-fn main() {
+fn main(rt: HostRuntime) {
     let mut region = [0u8; 84];
-    let tx: &mut [u8] = &mut region;
     let mut end = opened();
-    let line = Line::new().text(b"a ring with ");
-    line.number(end.numbers.tx.data_length)
-        .text(b" data bytes")
-        .print();
-    let mut i: u32 = 1;
-    while i <= 8 {
-        end = push(end, tx, i);
-        i += 1;
+    println!(rt; "a ring with {} data bytes", end.numbers.tx.data_length).ok();
+    // The control message for data, address 2, block 5.
+    let message = [0u8, 2, 5];
+    for i in 1..=8 {
+        let answer = end.push(&mut region, &message);
+        println!(rt; "packet {i} is {}", number_of(answer)).ok();
     }
-    let bytes = &tx[..];
-    let line = Line::new().text(b"the first packet:");
-    line.hex_bytes(&bytes[8..16]).print();
+    println!(rt; "the first packet:{}", Hex(&region[8..16])).ok();
 }

@@ -10,6 +10,7 @@ use borrow.Author.Tests.{le-leb, lt-leb, eq-eqb, ne_eqb}
 use Rattle.wire.specs.Choice.{pick, check as numbered, passed}
 use Rattle.wire.specs.Reads.{answer}
 use Rattle.wire.proofs.Choices.{passed-refused}
+use Rattle.std.specs.Prelude.{Result, Ok, Err}
 use Rattle.refusal.specs.Numbers.{number_of}
 use Rattle.refusal.specs.declared.Refusal.{Refusal}
 use Rattle.refusal.proofs.Positive.{number_positive}
@@ -18,11 +19,9 @@ use Rattle.blocks.specs.Names.{Name, endless, name, name_in, padded_name}
 use Rattle.blocks.specs.Tables.{entry, starts, blocks_for}
 use Rattle.blocks.specs.declared.Use.TheVariants.{SentBinding}
 use Rattle.blocks.specs.declared.Entry.{Entry}
-use Rattle.endpoints.specs.Endpoints.{waiting_for, clashes, clashes_stored, endpoint_at, binding_at, some_endpoint, some_binding, endpoint_test, binding_test}
+use Rattle.endpoints.specs.Endpoints.{waiting_for, clashes, clashes_stored, endpoint_at, binding_at, some_endpoint, some_binding, waiting_as, clashes_as, clashes_stored_as}
 use Rattle.endpoints.specs.declared.Endpoint.{Endpoint}
 use Rattle.endpoints.specs.declared.Binding.{Binding}
-use Rattle.endpoints.specs.declared.EndpointTest.TheVariants.{Clashes, WaitingFor}
-use Rattle.endpoints.specs.declared.BindingTest.{BindingTest}
 use Rattle.icbmsg.specs.Outcome.{Outcome, refused, check}
 use Rattle.icbmsg.specs.Ends.{is_open}
 use Rattle.icbmsg.specs.Arrivals.{fits_area, are_free, size_at, receiver, delivered, data_rule, released_bound_of, bound_named, bound_rule}
@@ -31,14 +30,9 @@ use Rattle.icbmsg.specs.declared.Region.{Region}
 use Rattle.icbmsg.specs.End.{End}
 use Rattle.icbmsg.proofs.ArrivingBytes.{data_flat, with_name, bound_flat}
 use Rattle.checks.specs.Measuring.{place_number, measured_number, MeasuredAs, are_lent}
-use Rattle.checks.specs.Decisions.{DataAs, ReleaseAs, BindAs, BlocksOf, NamedAs}
-use Rattle.checks.specs.declared.Run.TheVariants.{Live}
+use Rattle.checks.specs.Decisions.{DataAs, ReleaseAs, BindAs, NamedAs, PlacedIn}
 use Rattle.checks.specs.declared.arrivals.Measured.{Measured}
-use Rattle.checks.specs.declared.arrivals.Measured.TheVariants.{Fits}
-use Rattle.checks.specs.declared.arrivals.Delivery.{Delivery}
-use Rattle.checks.specs.declared.arrivals.Delivery.TheVariants.{To}
 use Rattle.checks.specs.declared.arrivals.Binds.{Binds}
-use Rattle.checks.specs.declared.arrivals.Named.{Named}
 use Rattle.checks.specs.declared.arrivals.Binds.TheVariants.{Waiting, Stored}
 use Rattle.checks.proofs.OpenSays.{open_says, run_inside}
 
@@ -61,16 +55,16 @@ three_checks true true false e o = refl
 three_checks true false c e o = refl
 three_checks false b c e o = refl
 
-module _ (m : Measured) (n : ℕ) (h : measured_number m ≡ n) where
-  pub measured_refused : (x : Refusal) (o : Outcome) (e : End) → m ≡ Measured.Refused x → passed n o (refused e) ≡ refused e (number_of x)
+module _ (m : Result Measured Refusal) (n : ℕ) (h : measured_number m ≡ n) where
+  pub measured_refused : (x : Refusal) (o : Outcome) (e : End) → m ≡ Err x → passed n o (refused e) ≡ refused e (number_of x)
   measured_refused x o e q = rw (← h, q) (passed-refused (number_of x) o (refused e) (number_positive x))
 
-  pub measured_fits : (k c : ℕ) (o : Outcome) (e : End) → m ≡ Fits k c → passed n o (refused e) ≡ o
-  measured_fits k c o e q = rw (← h, q)
+  pub measured_fits : (f : Measured) (o : Outcome) (e : End) → m ≡ Ok f → passed n o (refused e) ≡ o
+  measured_fits f o e q = rw (← h, q)
 
-pub measured_says : (m : Measured) (g : Region) (b k l n : ℕ) → MeasuredAs m g b k → m ≡ Fits l n →
-    (l ≡ k) × (n ≡ blocks_for g.block_size k) × (1 ≤ n) × (b + n ≤ g.block_count) × (k + 4 ≤ n * g.block_size)
-measured_says m g b k l n h q = rw q at h
+pub measured_says : (m : Result Measured Refusal) (g : Region) (b k : ℕ) (f : Measured) → MeasuredAs m g b k → m ≡ Ok f →
+    (f.length ≡ k) × (f.count ≡ blocks_for g.block_size k) × (1 ≤ f.count) × (b + f.count ≤ g.block_count) × (k + 4 ≤ f.count * g.block_size)
+measured_says m g b k f h q = rw q at h
 
 -- ---- kind 0
 
@@ -82,22 +76,23 @@ module _ (e : End) (a b : ℕ) (r : List ℕ) where
     pub data_15 : receiver e a ≡ nowhere → answer (data_rule e a b) r ≡ refused e 15
     data_15 i = data_flat e a b r ∙ rw (le-leb a 0xFD h, i)
 
-    module _ (p : ℕ) (i : receiver e a ≡ found_at p) (o : is_open e ≡ true) (n : ℕ) (l : n ≡ e.rx.length) (m : Measured)
+    module _ (p : ℕ) (i : receiver e a ≡ found_at p) (o : is_open e ≡ true) (n : ℕ) (l : n ≡ e.rx.length) (m : Result Measured Refusal)
         (s : measured_number m ≡ place_number n e.rx e.held b (size_at e.rx b r)) where
       data_passed : answer (data_rule e a b) r ≡ passed (place_number n e.rx e.held b (size_at e.rx b r)) (delivered e a b (size_at e.rx b r)) (refused e)
       data_passed =
           let k : ℕ = size_at e.rx b r in
           data_flat e a b r ∙ rw (le-leb a 0xFD h, ap is_found i, lent-whole e n o l) (three_checks (ltb b e.rx.block_count) (fits_area e.rx b k) (are_free e.held e.rx b k) e (delivered e a b k))
 
-      pub data_refused : (x : Refusal) → m ≡ Measured.Refused x → DataAs (Delivery.Refused x) e a b r
+      pub data_refused : (x : Refusal) → m ≡ Err x → DataAs (Err x) e a b r
       data_refused x q = data_passed ∙ measured_refused m _ s x _ e q
 
-      pub data_fits : (k c : ℕ) → m ≡ Fits k c → MeasuredAs m e.rx b (size_at e.rx b r) → p < 8 → DataAs (To p k c) e a b r
-      data_fits k c q t u =
+      pub data_fits : (d : Measured) → m ≡ Ok d → MeasuredAs m e.rx b (size_at e.rx b r) → p < 8 →
+          DataAs (Ok (record { place = p; length = d.length; count = d.count })) e a b r
+      data_fits d q t u =
           let z = (open_says e o).rx in
-          let f = measured_says m e.rx b (size_at e.rx b r) k c t q in
-          let y = run_inside e.alignment e.rx b c z f.3 in
-          (data_passed ∙ measured_fits m _ s k c _ e q ∙ rw (i, f.0, f.1), f.2, omega (arith, f.3, z.few), omega (arith, y, f.0, f.4, z.bytes), u)
+          let f = measured_says m e.rx b (size_at e.rx b r) d t q in
+          let y = run_inside e.alignment e.rx b d.count z f.3 in
+          (data_passed ∙ measured_fits m _ s d _ e q ∙ rw (i, f.0, f.1), f.2, omega (arith, f.3, z.few), omega (arith, y, f.0, f.4, z.bytes), u)
 
 -- ---- kind 3
 
@@ -122,7 +117,7 @@ module _ (e : End) (a b : ℕ) where
       unfolding released_bound_of
       unbind_other d = rw (le-leb a 0xFD h, p, k, ← l, ne_eqb x.address a d)
 
-      pub unbind_live : x.address ≡ a → ReleaseAs (Live x) e a b
+      pub unbind_live : x.address ≡ a → ReleaseAs (Ok x) e a b
       unfolding released_bound_of
       unbind_live d = (rw (le-leb a 0xFD h, p, k, ← l, eq-eqb x.address a d), p, l)
 
@@ -152,7 +147,7 @@ module _ (e : End) (a b n : ℕ) (its : List ℕ) where
     bind_21 k = rw (le-leb 1 (length its) h, ← p, ← q, either x y k)
 
     module _ (k : (x || y) ≡ false) (kept : List ℕ) (l : kept ≡ padded_name its) where
-      pub bind_waiting : (i : ℕ) → endpoint_at (waiting_for its) e.endpoints ≡ found_at i → BindAs (Waiting i) e a b n kept (bound_named e a b n its)
+      pub bind_waiting : (i : ℕ) → endpoint_at (waiting_for its) e.endpoints ≡ found_at i → BindAs (Ok (Waiting i)) e a b n kept (bound_named e a b n its)
       unfolding bound_named
       bind_waiting i w = let z = neither x y k in rw (le-leb 1 (length its) h, ← p, ← q, z.0, z.1, w, l)
 
@@ -161,7 +156,7 @@ module _ (e : End) (a b n : ℕ) (its : List ℕ) where
       bind_22 w u = let z = neither x y k in rw (le-leb 1 (length its) h, ← p, ← q, z.0, z.1, w, u)
 
       pub bind_stored : (j : ℕ) → endpoint_at (waiting_for its) e.endpoints ≡ nowhere → binding_at (λ x. not x.stored) e.bindings ≡ found_at j →
-          BindAs (Stored j) e a b n kept (bound_named e a b n its)
+          BindAs (Ok (Stored j)) e a b n kept (bound_named e a b n its)
       unfolding bound_named
       bind_stored j w u = let z = neither x y k in rw (le-leb 1 (length its) h, ← p, ← q, z.0, z.1, w, u, l)
 
@@ -190,24 +185,20 @@ module _ (e : End) (a b : ℕ) (r : List ℕ) where
 
 -- the searches for a padded name that is kept so
 module _ (ps : List Endpoint) (kept its : List ℕ) (a : ℕ) (l : kept ≡ padded_name its) where
-  pub clash_of : (x : Bool) → x ≡ some_endpoint (endpoint_test Clashes a kept) ps → x ≡ some_endpoint (clashes a its) ps
-  clash_of x h = h ∙ ap (λ (m : List ℕ). some_endpoint (endpoint_test Clashes a m) ps) l
+  pub clash_of : (x : Bool) → x ≡ some_endpoint (clashes_as a kept) ps → x ≡ some_endpoint (clashes a its) ps
+  clash_of x h = h ∙ ap (λ (m : List ℕ). some_endpoint (clashes_as a m) ps) l
 
-  pub waiting_of : (q : Search) → endpoint_at (endpoint_test WaitingFor 0 kept) ps ≡ q → endpoint_at (waiting_for its) ps ≡ q
-  waiting_of q h = sym (ap (λ (m : List ℕ). endpoint_at (endpoint_test WaitingFor 0 m) ps) l) ∙ h
+  pub waiting_of : (q : Search) → endpoint_at (waiting_as kept) ps ≡ q → endpoint_at (waiting_for its) ps ≡ q
+  waiting_of q h = sym (ap (λ (m : List ℕ). endpoint_at (waiting_as m) ps) l) ∙ h
 
-pub stored_of : (bs : List Binding) (kept its : List ℕ) (a : ℕ) → kept ≡ padded_name its → (x : Bool) → x ≡ some_binding (binding_test BindingTest.Clashes 0 a kept) bs → x ≡ some_binding (clashes_stored a its) bs
-stored_of bs kept its a l x h = h ∙ ap (λ (m : List ℕ). some_binding (binding_test BindingTest.Clashes 0 a m) bs) l
+pub stored_of : (bs : List Binding) (kept its : List ℕ) (a : ℕ) → kept ≡ padded_name its → (x : Bool) → x ≡ some_binding (clashes_stored_as a kept) bs → x ≡ some_binding (clashes_stored a its) bs
+stored_of bs kept its a l x h = h ∙ ap (λ (m : List ℕ). some_binding (clashes_stored_as a m) bs) l
 
--- a refusal of a binding, and what becomes of one whose name was found
-pub no_name : (r : Named) (x : Refusal) (e : End) (a b : ℕ) (l : List ℕ) → r.binds ≡ Binds.Refused x → answer (bound_rule e a b) l ≡ refused e (number_of x) → NamedAs r e a b l
-no_name r x e a b l q h = rw q (h, tt)
+-- what becomes of a binding whose name was found
+module _ (r : Result Binds Refusal) (e : End) (a b m : ℕ) (kept l its : List ℕ) {n : ℕ} (h : answer (bound_rule e a b) l ≡ bound_named e a b n its) (q : m ≡ n)
+    (k : BindAs r e a b m kept (bound_named e a b m its)) where
+  pub settled_not : (x : Refusal) → r ≡ Err x → NamedAs (Err x) e a b l
+  settled_not x p = let w : BindAs (Err x) e a b m kept (bound_named e a b m its) = rw p at k in rw (h, ← q) w
 
-blocks_of : (d : Binds) (b m : ℕ) → 1 ≤ m → b + m ≤ 256 → BlocksOf d b m
-blocks_of (Binds.Refused x) b m h k = tt
-blocks_of (Waiting i) b m h k = (h, k)
-blocks_of (Stored j) b m h k = (h, k)
-
-pub named_as : (d : Binds) (e : End) (a b m : ℕ) (kept l its : List ℕ) {n : ℕ} → answer (bound_rule e a b) l ≡ bound_named e a b n its → m ≡ n → 1 ≤ m → b + m ≤ 256 →
-    BindAs d e a b m kept (bound_named e a b m its) → BindAs d e a b m kept (answer (bound_rule e a b) l) × BlocksOf d b m
-named_as d e a b m kept l its h q i j k = (rw (h, ← q) k, blocks_of d b m i j)
+  pub settled : (d : Binds) → r ≡ Ok d → 1 ≤ m → b + m ≤ 256 → PlacedIn r → NamedAs (Ok (record { binds = d; count = m; name = kept })) e a b l
+  settled d p i j z = let w : BindAs (Ok d) e a b m kept (bound_named e a b m its) = rw p at k in (rw (h, ← q) w, i, j, rw p at z)

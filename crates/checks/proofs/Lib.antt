@@ -2,7 +2,6 @@ pub mod OpenNumbers
 pub mod OpenSays
 pub mod Runs
 pub mod Sends
-pub mod Decoding
 pub mod Measuring
 pub mod ArrivalDecisions
 pub mod RegisterDecisions

@@ -1,5 +1,5 @@
 -- Register: each way out of its decision, by the facts that the code has there.
-use Prim.Native.Nat.{ℕ, ◌≤◌}
+use Prim.Native.Nat.{ℕ, ◌≤◌, ◌<◌}
 use mathlib.Core.Bool.{Bool, true, false, not, ◌&&◌}
 use mathlib.Core.Path.{◌≡◌, ap, ◌∙◌}
 use mathlib.Core.List.{List}
@@ -7,19 +7,16 @@ use lib.Dec.{leb, eqb}
 use lib.ListN.{length}
 use borrow.Author.Tests.{leb-true}
 use Rattle.wire.proofs.Choices.{both}
-use Rattle.refusal.specs.Numbers.{number_of}
-use Rattle.refusal.specs.declared.Refusal.{Refusal}
+use Rattle.std.specs.Prelude.{Ok}
 use Rattle.blocks.specs.Names.{padded_name}
 use Rattle.blocks.specs.Search.{nowhere, found_at, any}
-use Rattle.endpoints.specs.Endpoints.{is_unused, at, registered, endpoint_at, some_endpoint, endpoint_test, good_name}
+use Rattle.endpoints.specs.Endpoints.{is_unused, at, registered, endpoint_at, some_endpoint, registered_as, good_name}
 use Rattle.endpoints.specs.declared.Endpoint.{Endpoint}
-use Rattle.endpoints.specs.declared.EndpointTest.TheVariants.{Registered}
 use Rattle.icbmsg.specs.Outcome.{refused}
 use Rattle.icbmsg.specs.Ends.{whole}
 use Rattle.icbmsg.specs.Registering.{register_of}
 use Rattle.icbmsg.specs.End.{End}
 use Rattle.checks.specs.Decisions.{PlaceAs}
-use Rattle.checks.specs.declared.registrations.Place.{Place}
 
 -- a good name has 1 to 31 bytes
 pub good_length : (n : List ℕ) → good_name 31 n ≡ true → (1 ≤ length n) × (length n ≤ 31)
@@ -29,13 +26,9 @@ good_length n h =
     let b = both (leb 1 (length n)) (leb (length n) 31) a.0 in
     (leb-true 1 (length n) b.0, leb-true (length n) 31 b.1)
 
--- a refusal, by the place that the code hands back
-pub no_place : (p : Place) (x : Refusal) (e : End) (l : ℕ) (n kept : List ℕ) → p ≡ Place.Refused x → register_of e l n ≡ refused e (number_of x) → PlaceAs p e l n kept
-no_place p x e l n kept q h = rw q h
-
 -- the search for a name that is kept so
-pub registered_of : (ps : List Endpoint) (kept n : List ℕ) → kept ≡ padded_name n → (x : Bool) → x ≡ some_endpoint (endpoint_test Registered 0 kept) ps → x ≡ some_endpoint (registered n) ps
-registered_of ps kept n l x h = h ∙ ap (λ (m : List ℕ). some_endpoint (endpoint_test Registered 0 m) ps) l
+pub registered_of : (ps : List Endpoint) (kept n : List ℕ) → kept ≡ padded_name n → (x : Bool) → x ≡ some_endpoint (registered_as kept) ps → x ≡ some_endpoint (registered n) ps
+registered_of ps kept n l x h = h ∙ ap (λ (m : List ℕ). some_endpoint (registered_as m) ps) l
 
 module _ (e : End) (l : ℕ) (n : List ℕ) where
   pub register_6 : whole e e.tx l ≡ false → register_of e l n ≡ refused e 6
@@ -57,6 +50,6 @@ module _ (e : End) (l : ℕ) (n : List ℕ) where
         unfolding register_of
         register_22 q = rw (h, k, p, q)
 
-        pub register-at : (i : ℕ) (kept : List ℕ) → endpoint_at (at is_unused) e.endpoints ≡ found_at i → kept ≡ padded_name n → PlaceAs (Place.At i) e l n kept
+        pub register_at : (i : ℕ) (kept : List ℕ) → endpoint_at (at is_unused) e.endpoints ≡ found_at i → kept ≡ padded_name n → i < 8 → PlaceAs (Ok (record { place = i; name = kept })) e l n
         unfolding register_of
-        register-at i kept q r = (rw (h, k, p, q), h, k, r)
+        register_at i kept q r b = (rw (h, k, p, q), h, k, r, b)

@@ -7,6 +7,7 @@ use native.Mathlib.Omega.{arith}
 use native.Mathlib.Nat.{mul-le-mul_right}
 use lib.Dec.{leb}
 use borrow.Author.Tests.{le-leb, lt-leb}
+use Rattle.std.specs.Prelude.{Result, Ok, Err}
 use Rattle.refusal.specs.Numbers.{number_of}
 use Rattle.refusal.specs.declared.Refusal.{Refusal}
 use Rattle.blocks.specs.Search.{nowhere, found_at}
@@ -26,9 +27,7 @@ use Rattle.icbmsg.specs.declared.Numbers.{Numbers}
 use Rattle.icbmsg.specs.End.{End}
 use Rattle.checks.specs.Parts.{joined}
 use Rattle.checks.specs.Decisions.{RunAs, FitAs, ReservesAs}
-use Rattle.checks.specs.declared.Run.{Run}
-use Rattle.checks.specs.declared.Space.{Space}
-use Rattle.checks.specs.declared.Space.TheVariants.{At}
+use Rattle.checks.specs.declared.Blocks.{Blocks}
 use Rattle.checks.proofs.OpenSays.{Sound, open_says, run_inside, whole_says}
 
 -- ---- a run behind a check
@@ -41,11 +40,11 @@ module _ (n : ℕ) (p b : Bool) where
   run_none h k e o = rw (h, k)
 
 -- what the decision says, by its case
-module _ (r : Run) (n : ℕ) (p b : Bool) (y : Entry) (h : RunAs r n p b y) where
-  pub run-refused : (x : Refusal) → r ≡ Run.Refused x → (e : End) (o : Outcome) → check p n e (check b 25 e o) ≡ refused e (number_of x)
+module _ (r : Result Entry Refusal) (n : ℕ) (p b : Bool) (y : Entry) (h : RunAs r n p b y) where
+  pub run-refused : (x : Refusal) → r ≡ Err x → (e : End) (o : Outcome) → check p n e (check b 25 e o) ≡ refused e (number_of x)
   run-refused x q = rw q at h
 
-  pub run-live : (z : Entry) → r ≡ Run.Live z → (p ≡ true) × (b ≡ true) × (z ≡ y)
+  pub run-live : (z : Entry) → r ≡ Ok z → (p ≡ true) × (b ≡ true) × (z ≡ y)
   run-live z q = rw q at h
 
 -- ---- room for a message
@@ -68,11 +67,11 @@ unfolding reserve_of is_open
 reserve_6 n t k ps bs h = rw h
 
 module _ (n : Numbers) (t : List ℕ) (k : ℕ) (h : open_numbers n.alignment n.tx n.rx n.write n.read ≡ true) (few : n.tx.block_count ≤ 256) where
-  pub reserves : (r : Space) → FitAs r n.tx (table_of t 0) k → ReservesAs r n t k
+  pub reserves : (r : Result Blocks Refusal) → FitAs r n.tx (table_of t 0) k → ReservesAs r n t k
   unfolding reserve_of is_open
-  reserves (Space.Refused x) f = λ ps bs. rw h (f (joined n t ps bs) (reservation (joined n t ps bs) k))
-  reserves (At s m) f =
-      (f.0, f.3, omega (arith, f.4), λ ps bs. rw h (fit_at n.tx (table_of t 0) k m f.0 (joined n t ps bs) (reservation (joined n t ps bs) k) s f.1 f.2))
+  reserves (Err x) f = λ ps bs. rw h (f (joined n t ps bs) (reservation (joined n t ps bs) k))
+  reserves (Ok r) f =
+      (f.0, f.3, omega (arith, f.4), λ ps bs. rw h (fit_at n.tx (table_of t 0) k r.count f.0 (joined n t ps bs) (reservation (joined n t ps bs) k) r.start f.1 f.2))
 
 -- ---- all that a run's part of the n lent bytes needs
 

@@ -5,6 +5,7 @@ use mathlib.Core.Path.{◌≡◌}
 use mathlib.Core.List.{List}
 use lib.Dec.{eqb}
 use borrow.Author.Tests.{le-leb, lt-leb}
+use Rattle.std.specs.Prelude.{Ok}
 use Rattle.refusal.specs.Numbers.{number_of}
 use Rattle.refusal.specs.declared.Refusal.{Refusal}
 use Rattle.blocks.specs.Tables.{entry, starts, blocks_for}
@@ -22,7 +23,6 @@ use Rattle.icbmsg.specs.End.{End}
 use Rattle.icbmsg.specs.declared.Numbers.{Numbers}
 use Rattle.checks.specs.Parts.{joined}
 use Rattle.checks.specs.Decisions.{SendAs}
-use Rattle.checks.specs.declared.Sending.TheVariants.{Fits}
 use Rattle.checks.proofs.OpenSays.{is_whole}
 
 module _ (n : Numbers) (t : List ℕ) (ps : List Endpoint) (l s a k : ℕ) (w : Bool) (q : w ≡ (open_numbers n.alignment n.tx n.rx n.write n.read && eqb l n.tx.length)) (bs : List Binding) where
@@ -42,7 +42,7 @@ module _ (n : Numbers) (t : List ℕ) (ps : List Endpoint) (l s a k : ℕ) (w : 
       unfolding send_of is_open
       send_23 i = rw (← q, h, p, r, ← y, lt-leb (k + 4) (x.count * n.tx.block_size) i)
 
-      pub send-fits : (b m : ℕ) → 1 ≤ n.tx.block_size → b ≡ a → m ≡ blocks_for n.tx.block_size k → k + 4 ≤ x.count * n.tx.block_size → SendAs (Fits b x.count m) (joined n t ps bs) l s a k
+      pub send-fits : (b m : ℕ) → 1 ≤ n.tx.block_size → b ≡ a → m ≡ blocks_for n.tx.block_size k → k + 4 ≤ x.count * n.tx.block_size → SendAs (Ok (record { address = b; held = x.count; count = m })) (joined n t ps bs) l s a k
       unfolding send_of is_open
       send-fits b m z c d i =
           (rw (← q, h, p, r, ← y, le-leb (k + 4) (x.count * n.tx.block_size) i, ← d), c, is_whole (joined n t ps bs) n.tx l w q h, p, rw y, rw d (blocks-one n.tx.block_size k z), rw d (blocks_least n.tx.block_size k x.count i z), i)

@@ -7,12 +7,11 @@ ghost use Rattle.icbmsg.specs.Ends.{open_numbers};
 ghost use Rattle.icbmsg.specs.Arrivals.{decode as decodeRule, size_at};
 ghost use Rattle.checks.specs.Parts.{joined};
 ghost use Rattle.checks.specs.Measuring.{are_lent, place_number, measured_number, MeasuredAs};
-ghost use Rattle.checks.specs.Decisions.{RunAs, Delivers, Releases, BindsAs, NamedAs};
-ghost use Rattle.checks.specs.declared.arrivals.Binds.{Binds};
+ghost use Rattle.checks.specs.Decisions.{RunAs, Delivers, Releases, BindsAs, PlacedIn, NamedAs};
 
-use crate::{MAX_BLOCKS, MAX_BYTES, Run};
-use blocks::{Found, Use};
-use endpoints::{Binding, BindingTest, Endpoint, EndpointTest};
+use crate::{MAX_BLOCKS, MAX_BYTES};
+use blocks::{Entry, Use};
+use endpoints::{Binding, Endpoint, PLACES};
 use icbmsg::{Control, Numbers, Region};
 use refusal::Refusal;
 
@@ -21,28 +20,24 @@ const LAST_ADDRESS: u8 = 0xFD;
 // Where the zero behind a name stands at the latest.
 const NAME_AND_ZERO: usize = endpoints::LONGEST_NAME + 1;
 
-// An arriving message, measured: its length and how many blocks it takes, or why it is refused.
+// An arriving message, measured: its length and how many blocks it takes.
 #[derive(Clone, Copy)]
-pub enum Measured {
-    Refused(Refusal),
-    Fits { length: u32, count: usize },
+pub struct Measured {
+    pub length: u32,
+    pub count: usize,
 }
 
-// A data message that has arrived: the place of the endpoint that it reaches, its length and how many blocks it takes, or why it is refused.
+// A data message that has arrived: the place of the endpoint that it reaches, its length and how many blocks it takes.
 #[derive(Clone, Copy)]
-pub enum Delivery {
-    Refused(Refusal),
-    To {
-        place: usize,
-        length: u32,
-        count: usize,
-    },
+pub struct Delivery {
+    pub place: usize,
+    pub length: u32,
+    pub count: usize,
 }
 
 // What becomes of an arriving binding: a waiting endpoint is bound, or it is stored, each at its place.
 #[derive(Clone, Copy)]
 pub enum Binds {
-    Refused(Refusal),
     Waiting(usize),
     Stored(usize),
 }
@@ -55,7 +50,8 @@ pub struct Named {
     pub name: [u8; 32],
 }
 
-// Takes a control message apart.
+// Takes a control message apart. One that is too short or of an unknown kind is a Control too and no Err, since the rules speak of both
+// (`arrival_reads`, `arrival_change` and `completes` of icbmsg/specs).
 pub fn decode(message: &[u8]) -> Control
     ensures { result ≡ decodeRule message.now }
 {
@@ -92,66 +88,59 @@ fn are_lent(n: usize, g: Region) -> bool
 }
 
 // Measures the message in receive block b: checks 6, 16, 17 and 18. Its size is read here, and nowhere again.
-fn measure(rx: &[u8], g: Region, t: &[u8], b: u8) -> Measured
-    requires { length t.now ≡ 3136 }
+fn measure(rx: &[u8], g: Region, t: &[u8; tables::BYTES], b: u8) -> Result<Measured, Refusal>
     ensures number { measured_number result ≡ place_number (length rx.now) g (table_of t.now 1568) b (size_at g b rx.now) }
     ensures size { MeasuredAs result g b (size_at g b rx.now) }
 {
     if !are_lent(rx.len(), g) {
-        return Measured::Refused(Refusal::WrongRegion);
+        return Err(Refusal::WrongRegion);
     }
     let s = b as usize;
     let block_count = g.block_count as usize;
     let block_size = g.block_size as usize;
     if block_count <= s {
-        return Measured::Refused(Refusal::BadBlock);
+        return Err(Refusal::BadBlock);
     }
     let k = wire::read_u32(rx, g.blocks_offset as usize + s * block_size);
     if (block_count - s) * block_size < k as usize + 4 {
-        return Measured::Refused(Refusal::PastTheLastBlock);
+        return Err(Refusal::PastTheLastBlock);
     }
     let n = blocks::least_blocks(g.block_size, k);
-    if tables::all_free(t, tables::HELD, s, n) {
-        Measured::Fits {
-            length: k,
-            count: n,
-        }
-    } else {
-        Measured::Refused(Refusal::BlockHeld)
+    if !tables::all_free(t, tables::HELD, s, n) {
+        return Err(Refusal::BlockHeld);
     }
+    Ok(Measured {
+        length: k,
+        count: n,
+    })
 }
 
 // Kind 0, a data message: checks 14 to 18.
 pub fn data_sent(
     n: Numbers,
-    t: &[u8],
-    endpoints: [Endpoint; endpoints::PLACES],
+    t: &[u8; tables::BYTES],
+    endpoints: &[Endpoint; PLACES],
     rx: &[u8],
     address: u8,
     block: u8,
-) -> Delivery
-    requires { (open_numbers n.alignment n.tx n.rx n.write n.read ≡ true) × (length rx.now ≡ n.rx.length) × (length t.now ≡ 3136) }
-    ensures { Delivers result n t.now endpoints address block rx.now }
+) -> Result<Delivery, Refusal>
+    requires { (open_numbers n.alignment n.tx n.rx n.write n.read ≡ true) × (length rx.now ≡ n.rx.length) }
+    ensures { Delivers result n t.now endpoints.now address block rx.now }
 {
     if LAST_ADDRESS < address {
-        return Delivery::Refused(Refusal::BadAddress);
+        return Err(Refusal::BadAddress);
     }
-    match endpoints::find_receiver(endpoints, n.initiator, address) {
-        Found::Nowhere => Delivery::Refused(Refusal::NotBound),
-        Found::At(place) => match measure(rx, n.rx, t, block) {
-            Measured::Refused(x) => Delivery::Refused(x),
-            Measured::Fits { length, count } => Delivery::To {
-                place,
-                length,
-                count,
-            },
-        },
-    }
+    let place = endpoints::find_receiver(endpoints, n.initiator, address).ok_or(Refusal::NotBound)?;
+    let Measured { length, count } = measure(rx, n.rx, t, block)?;
+    Ok(Delivery {
+        place,
+        length,
+        count,
+    })
 }
 
 // Kind 1, the release of a data message: checks 16 and 25.
-pub fn data_released(n: Numbers, t: &[u8], block: u8) -> Run
-    requires { length t.now ≡ 3136 }
+pub fn data_released(n: Numbers, t: &[u8; tables::BYTES], block: u8) -> Result<Entry, Refusal>
     ensures { RunAs result 16 (ltb block n.tx.block_count) (starts SentData n.tx.block_count (table_of t.now 0) block) (entry (table_of t.now 0) block) }
 {
     crate::live(
@@ -166,14 +155,18 @@ pub fn data_released(n: Numbers, t: &[u8], block: u8) -> Run
 }
 
 // Kind 3, the release of a binding: checks 14, 16 and 25.
-pub fn binding_released(n: Numbers, t: &[u8], address: u8, block: u8) -> Run
-    requires { length t.now ≡ 3136 }
+pub fn binding_released(
+    n: Numbers,
+    t: &[u8; tables::BYTES],
+    address: u8,
+    block: u8,
+) -> Result<Entry, Refusal>
     ensures { Releases result n t.now address block }
 {
     if LAST_ADDRESS < address {
-        return Run::Refused(Refusal::BadAddress);
+        return Err(Refusal::BadAddress);
     }
-    let run = crate::live(
+    let x = crate::live(
         (block as u16) < n.tx.block_count,
         Refusal::BadBlock,
         t,
@@ -181,91 +174,63 @@ pub fn binding_released(n: Numbers, t: &[u8], address: u8, block: u8) -> Run
         Use::SentBinding,
         n.tx.block_count,
         block as u32,
-    );
-    match run {
-        Run::Refused(x) => Run::Refused(x),
-        Run::Live(x) => {
-            if x.address == address {
-                Run::Live(x)
-            } else {
-                Run::Refused(Refusal::NoMessage)
-            }
-        }
+    )?;
+    if x.address != address {
+        return Err(Refusal::NoMessage);
     }
+    Ok(x)
 }
 
 // What becomes of a binding of this padded name, which has n bytes: checks 20, 21 and 22.
 fn settle(
-    endpoints: [Endpoint; endpoints::PLACES],
-    bindings: [Binding; endpoints::PLACES],
+    endpoints: &[Endpoint; PLACES],
+    bindings: &[Binding; PLACES],
     name: &[u8],
     n: usize,
     address: u8,
-) -> Binds
-    ensures { BindsAs result endpoints bindings name.now n address }
+) -> Result<Binds, Refusal>
+    ensures rule { BindsAs result endpoints.now bindings.now name.now n address }
+    ensures placed { PlacedIn result }
 {
     if n < 1 {
-        return Binds::Refused(Refusal::BadName);
+        return Err(Refusal::BadName);
     }
-    let bound = endpoints::has(endpoints, EndpointTest::Clashes, address as u32, name);
-    let stored = endpoints::has_binding(bindings, BindingTest::Clashes, 0, address, name);
+    let bound = endpoints::clashes(endpoints, address as u32, name);
+    let stored = endpoints::stored_clashes(bindings, address, name);
     if bound | stored {
-        return Binds::Refused(Refusal::NameTaken);
+        return Err(Refusal::NameTaken);
     }
-    match endpoints::find(endpoints, EndpointTest::WaitingFor, 0, name) {
-        Found::At(i) => Binds::Waiting(i),
-        Found::Nowhere => {
-            match endpoints::find_binding(bindings, BindingTest::Free, 0, 0, name) {
-                Found::At(j) => Binds::Stored(j),
-                Found::Nowhere => Binds::Refused(Refusal::NoPlace),
-            }
-        }
+    if let Some(i) = endpoints::find_waiting(endpoints, name) {
+        return Ok(Binds::Waiting(i));
     }
-}
-
-// A refusal has no name.
-fn nameless(x: Refusal) -> Named
-    ensures { result.binds ≡ Binds.Refused x }
-{
-    Named {
-        binds: Binds::Refused(x),
-        count: 0,
-        name: [0; 32],
-    }
+    let j = endpoints::find_free(bindings).ok_or(Refusal::NoPlace)?;
+    Ok(Binds::Stored(j))
 }
 
 // Kind 2, a binding: checks 19, 14, 16 to 18, 20 to 22.
 pub fn binding_sent(
     n: Numbers,
-    t: &[u8],
-    endpoints: [Endpoint; endpoints::PLACES],
-    bindings: [Binding; endpoints::PLACES],
+    t: &[u8; tables::BYTES],
+    endpoints: &[Endpoint; PLACES],
+    bindings: &[Binding; PLACES],
     rx: &[u8],
     address: u8,
     block: u8,
-) -> Named
-    requires { (open_numbers n.alignment n.tx n.rx n.write n.read ≡ true) × (length rx.now ≡ n.rx.length) × (length t.now ≡ 3136) }
-    ensures { NamedAs result (joined n t.now endpoints bindings) address block rx.now }
+) -> Result<Named, Refusal>
+    requires { (open_numbers n.alignment n.tx n.rx n.write n.read ≡ true) × (length rx.now ≡ n.rx.length) }
+    ensures { NamedAs result (joined n t.now endpoints.now bindings.now) address block rx.now }
 {
     if n.initiator {
-        return nameless(Refusal::NotFollower);
+        return Err(Refusal::NotFollower);
     }
     if LAST_ADDRESS < address {
-        return nameless(Refusal::BadAddress);
+        return Err(Refusal::BadAddress);
     }
-    match measure(rx, n.rx, t, block) {
-        Measured::Refused(x) => nameless(x),
-        Measured::Fits { length, count } => {
-            let p = n.rx.blocks_offset as usize + block as usize * n.rx.block_size as usize + 4;
-            let most = wire::least(length as usize, NAME_AND_ZERO);
-            match blocks::framing::name_length(rx, p, most) {
-                Found::Nowhere => nameless(Refusal::BadName),
-                Found::At(m) => {
-                    let name = blocks::framing::padded(rx, p, m);
-                    let binds = settle(endpoints, bindings, &name, m, address);
-                    Named { binds, count, name }
-                }
-            }
-        }
-    }
+    let Measured { length, count } = measure(rx, n.rx, t, block)?;
+    let p = n.rx.blocks_offset as usize + block as usize * n.rx.block_size as usize + 4;
+    let most = (length as usize).min(NAME_AND_ZERO);
+    let m = blocks::framing::name_length(rx, p, most).ok_or(Refusal::BadName)?;
+    let name = blocks::framing::padded(rx, p, m);
+    let binds = settle(endpoints, bindings, &name, m, address)?;
+    Ok(Named { binds, count, name })
 }

@@ -5,7 +5,7 @@
 pub mod arrivals;
 pub mod registrations;
 
-ghost use Rattle.std.specs.Prelude.{◌&&◌, ◌≡◌, ◌≤◌, eqb, length};
+ghost use Rattle.std.specs.Prelude.{◌&&◌, ◌≡◌, ◌≤◌, eqb};
 ghost use Rattle.refusal.specs.Numbers.{number_of};
 ghost use Rattle.blocks.specs.Search.{all};
 ghost use Rattle.blocks.specs.Tables.{entry, starts, starts_data};
@@ -13,10 +13,11 @@ ghost use Rattle.tables.specs.Compact.{table_of};
 ghost use Rattle.icbmsg.specs.Ends.{sound_region, open_numbers};
 ghost use Rattle.checks.specs.Decisions.{RunAs, FitAs, ReservesAs, Sends};
 
-use blocks::{Entry, Found, RunAt, Use};
-use endpoints::{Addressee, Endpoint};
+use blocks::{Entry, Use};
+use endpoints::Endpoint;
 use icbmsg::{Numbers, Region};
 use refusal::Refusal;
+use tables::Base;
 
 // The limits of an end's regions.
 const MAX_ALIGNMENT: u16 = region::MAX_ALIGNMENT as u16;
@@ -25,29 +26,19 @@ const MAX_BYTES: usize = region::MAX_BYTES as usize;
 
 const MAX_BLOCKS: usize = region::MAX_BLOCKS as usize;
 
-// A live run's first entry, or why there is none.
-#[derive(Clone, Copy)]
-pub enum Run {
-    Refused(Refusal),
-    Live(Entry),
-}
-
 // Where the blocks of a message lie that is to be written, and how many they are.
 #[derive(Clone, Copy)]
-pub enum Space {
-    Refused(Refusal),
-    At { start: usize, count: usize },
+pub struct Blocks {
+    pub start: usize,
+    pub count: usize,
 }
 
 // A send: the address as a byte, how many blocks the reservation has, and how many the message needs.
 #[derive(Clone, Copy)]
-pub enum Sending {
-    Refused(Refusal),
-    Fits {
-        address: u8,
-        held: usize,
-        count: usize,
-    },
+pub struct Sending {
+    pub address: u8,
+    pub held: usize,
+    pub count: usize,
 }
 
 // ---- an end's numbers
@@ -94,66 +85,56 @@ pub fn is_whole(n: Numbers, g: Region, lent: usize) -> bool
 
 // ---- runs
 
-// The live run in use u that starts at s, behind a check that has passed, or not.
+// The first entry of the live run in use u that starts at s, behind a check that has passed, or not. The check comes in as a flag, so that its
+// refusal and 25 are one function with one proof for the five calls that have both.
 pub fn live(
     passed: bool,
     otherwise: Refusal,
-    t: &[u8],
-    base: usize,
+    t: &[u8; tables::BYTES],
+    base: Base,
     u: Use,
     block_count: u16,
     s: u32,
-) -> Run
-    requires { (base ≤ 1568) × (length t.now ≡ 3136) }
-    ensures { RunAs result (number_of otherwise) passed (starts u block_count (table_of t.now base) s) (entry (table_of t.now base) s) }
+) -> Result<Entry, Refusal>
+    ensures { RunAs result (number_of otherwise) passed (starts u block_count (table_of t.now base.at) s) (entry (table_of t.now base.at) s) }
 {
     if !passed {
-        return Run::Refused(otherwise);
+        return Err(otherwise);
     }
-    match tables::run_at(t, base, u, block_count, s) {
-        RunAt::Nothing => Run::Refused(Refusal::NoMessage),
-        RunAt::Live(x) => Run::Live(x),
-    }
+    tables::run_at(t, base, u, block_count, s).ok_or(Refusal::NoMessage)
 }
 
 // The received data that starts at s, behind such a check.
-pub fn received(passed: bool, t: &[u8], g: Region, s: u32) -> Run
-    requires { length t.now ≡ 3136 }
+pub fn received(passed: bool, t: &[u8; tables::BYTES], g: Region, s: u32) -> Result<Entry, Refusal>
     ensures { RunAs result 6 passed (starts_data g.block_count g.block_size (table_of t.now 1568) s) (entry (table_of t.now 1568) s) }
 {
     if !passed {
-        return Run::Refused(Refusal::WrongRegion);
+        return Err(Refusal::WrongRegion);
     }
-    match tables::data_at(t, tables::HELD, g.block_count, g.block_size, s) {
-        RunAt::Nothing => Run::Refused(Refusal::NoMessage),
-        RunAt::Live(x) => Run::Live(x),
-    }
+    tables::data_at(t, tables::HELD, g.block_count, g.block_size, s).ok_or(Refusal::NoMessage)
 }
 
 // ---- messages that are written
 
 // The lowest blocks of the region g that hold k bytes: checks 23 and 24.
-pub fn fit(g: Region, t: &[u8], k: u32) -> Space
-    requires { (1 ≤ g.block_size) × (g.block_count ≤ 256) × (length t.now ≡ 3136) }
+pub fn fit(g: Region, t: &[u8; tables::BYTES], k: u32) -> Result<Blocks, Refusal>
+    requires { (1 ≤ g.block_size) × (g.block_count ≤ 256) }
     ensures { FitAs result g (table_of t.now 0) k }
 {
     let count = blocks::least_blocks(g.block_size, k);
     if (g.block_count as usize) < count {
-        return Space::Refused(Refusal::CannotFit);
+        return Err(Refusal::CannotFit);
     }
-    match tables::lowest_run(t, tables::SENT, g.block_count, count) {
-        Found::Nowhere => Space::Refused(Refusal::NoRoom),
-        Found::At(start) => Space::At { start, count },
-    }
+    let start = tables::lowest_run(t, tables::SENT, g.block_count, count).ok_or(Refusal::NoRoom)?;
+    Ok(Blocks { start, count })
 }
 
 // The blocks of a reservation of k bytes.
-pub fn reservation(n: Numbers, t: &[u8], k: u32) -> Space
-    requires { length t.now ≡ 3136 }
+pub fn reservation(n: Numbers, t: &[u8; tables::BYTES], k: u32) -> Result<Blocks, Refusal>
     ensures { ReservesAs result n t.now k }
 {
     if !is_open(n) {
-        return Space::Refused(Refusal::WrongRegion);
+        return Err(Refusal::WrongRegion);
     }
     fit(n.tx, t, k)
 }
@@ -161,18 +142,17 @@ pub fn reservation(n: Numbers, t: &[u8], k: u32) -> Space
 // What a send of k bytes of the reservation at s needs: checks 6, 25, 15 and 23.
 pub fn send(
     n: Numbers,
-    t: &[u8],
-    endpoints: [Endpoint; endpoints::PLACES],
+    t: &[u8; tables::BYTES],
+    endpoints: &[Endpoint; endpoints::PLACES],
     lent: usize,
     s: u32,
     address: u32,
     k: u32,
-) -> Sending
-    requires { length t.now ≡ 3136 }
-    ensures { Sends result n t.now endpoints lent s address k }
+) -> Result<Sending, Refusal>
+    ensures { Sends result n t.now endpoints.now lent s address k }
 {
     let whole = is_whole(n, n.tx, lent);
-    let run = live(
+    let reserved = live(
         whole,
         Refusal::WrongRegion,
         t,
@@ -180,23 +160,16 @@ pub fn send(
         Use::Reserved,
         n.tx.block_count,
         s,
-    );
-    match run {
-        Run::Refused(x) => Sending::Refused(x),
-        Run::Live(x) => match endpoints::find_addressee(endpoints, address) {
-            Addressee::Nobody => Sending::Refused(Refusal::NotBound),
-            Addressee::Bound(to) => {
-                let held = x.count as usize;
-                if held * (n.tx.block_size as usize) < k as usize + 4 {
-                    return Sending::Refused(Refusal::CannotFit);
-                }
-                let count = blocks::least_blocks(n.tx.block_size, k);
-                Sending::Fits {
-                    address: to,
-                    held,
-                    count,
-                }
-            }
-        },
+    )?;
+    let address = endpoints::find_addressee(endpoints, address).ok_or(Refusal::NotBound)?;
+    let held = reserved.count as usize;
+    if held * (n.tx.block_size as usize) < k as usize + 4 {
+        return Err(Refusal::CannotFit);
     }
+    let count = blocks::least_blocks(n.tx.block_size, k);
+    Ok(Sending {
+        address,
+        held,
+        count,
+    })
 }

@@ -2,9 +2,8 @@
 use crate::calls::Memory;
 use crate::ends::Ends;
 use crate::{calls, texts};
-use icbmsg::{Bounds, Opening, Region};
-use lines::Line;
-use link::{Answer, End};
+use icbmsg::{Bounds, Opening};
+use link::Answer;
 
 const ALIGNMENT: u32 = 32;
 
@@ -23,232 +22,238 @@ const TO_PANEL: Bounds = Bounds {
 };
 
 // A line of plain text.
-fn say(text: &[u8]) {
-    Line::new().text(text).print();
+fn say(rt: &impl Print, text: &str) {
+    rt.println(text).ok();
 }
 
-fn heading(title: &[u8]) {
-    say(b"");
-    say(title);
+fn heading(rt: &impl Print, title: &str) {
+    say(rt, "");
+    say(rt, title);
 }
 
-pub fn legend() {
-    say(b"ENDS. Two ends of one link in one process: binding, messages and their blocks");
-    say(b"");
-    say(b"The panel sends in the region at 0x20070000, the pump in the one at 0x20078000.");
-    say(b"Each line is a call: whose end, which call, its number, its values. Number 0 is");
-    say(b"accepted, any other says why it is refused. A picture has a letter for each block");
-    say(b"of one direction, in the sender's table and in the receiver's:");
-    say(b"       .  free           R  reserved            -  next block of the same run");
-    say(b"       S  message sent   D  message received    B  binding sent   b  binding stored");
+const LEGEND: [&str; 8] = [
+    "ENDS. Two ends of one link in one process: binding, messages and their blocks",
+    "",
+    "The panel sends in the region at 0x20070000, the pump in the one at 0x20078000.",
+    "Each line is a call: whose end, which call, its number, its values. Number 0 is",
+    "accepted, any other says why it is refused. A picture has a letter for each block",
+    "of one direction, in the sender's table and in the receiver's:",
+    "       .  free           R  reserved            -  next block of the same run",
+    "       S  message sent   D  message received    B  binding sent   b  binding stored",
+];
+
+pub fn legend(rt: &impl Print) {
+    for line in &LEGEND {
+        say(rt, line);
+    }
 }
 
 // Both ends are opened, and each pulls the other's start content.
-pub fn open() -> Ends {
-    heading(b"1. Opening and start");
-    let from = calls::open(Opening {
-        alignment: ALIGNMENT,
-        tx: TO_PUMP,
-        rx: TO_PANEL,
-    });
-    let to = calls::open(Opening {
-        alignment: ALIGNMENT,
-        tx: TO_PANEL,
-        rx: TO_PUMP,
-    });
-    Ends::new(from, to).start().turned().start().turned()
+pub fn open(rt: &impl Print) -> Ends {
+    heading(rt, "1. Opening and start");
+    let panel = calls::open(
+        rt,
+        Opening {
+            alignment: ALIGNMENT,
+            tx: TO_PUMP,
+            rx: TO_PANEL,
+        },
+    );
+    let pump = calls::open(
+        rt,
+        Opening {
+            alignment: ALIGNMENT,
+            tx: TO_PANEL,
+            rx: TO_PUMP,
+        },
+    );
+    let mut ends = Ends::new(panel, pump);
+    ends.start(rt);
+    ends.turn();
+    ends.start(rt);
+    ends.turn();
+    ends
 }
 
 // The panel's end registers, and waits. The pump's binding arrives, and is answered with the bytes of its release, which are the caller's to
 // push. The panel pushes them late, behind its first message: that message binds the pump's endpoint too, and the release frees the block.
-pub fn bind(ends: Ends) -> Ends {
-    heading(b"2. Binding the endpoint calibration: data comes before the release");
+pub fn bind(rt: &impl Print, ends: &mut Ends) {
+    heading(
+        rt,
+        "2. Binding the endpoint calibration: data comes before the release",
+    );
     let name = b"calibration";
-    let waiting = register(ends, name);
-    let bound = register(waiting.turned(), name).arrive();
-    let release = bound.answer;
-    let bound = bound.turned();
-    show_endpoint(bound.to);
-    let ends = bound.send(5, b"ready").announce();
-    show_endpoint(ends.to);
-    show_binding(ends);
-    let ends = ends.finish().with(release).push().arrive();
-    show_binding(ends);
-    show_endpoint(ends.from);
-    show_endpoint(ends.to);
-    ends
+    ends.register(rt, name);
+    ends.turn();
+    ends.register(rt, name);
+    ends.arrive(rt);
+    let release = ends.answer;
+    ends.turn();
+    texts::print_endpoint(rt, &ends.to);
+    ends.send(rt, 5, b"ready");
+    ends.announce(rt);
+    texts::print_endpoint(rt, &ends.to);
+    ends.show_binding(rt);
+    ends.finish(rt);
+    ends.answer = release;
+    ends.push(rt);
+    ends.arrive(rt);
+    ends.show_binding(rt);
+    texts::print_endpoint(rt, &ends.from);
+    texts::print_endpoint(rt, &ends.to);
 }
 
 // The other way about, the pump's binding is stored, and registering the name pushes its release.
-pub fn store(ends: Ends) -> Ends {
-    heading(b"3. Binding the endpoint log: its binding comes before the panel registers");
+pub fn store(rt: &impl Print, ends: &mut Ends) {
+    heading(
+        rt,
+        "3. Binding the endpoint log: its binding comes before the panel registers",
+    );
     let name = b"log";
-    let stored = register(ends.turned(), name).arrive();
-    show_binding(stored);
-    let ends = register(stored.turned(), name).arrive();
-    show_binding(ends);
-    ends
-}
-
-// An end's first endpoint, as it stands.
-fn show_endpoint(end: End) {
-    let endpoints = end.endpoints;
-    let line = texts::by(end.numbers, b"endpoint ");
-    texts::endpoint(line, endpoints[0]).print();
-}
-
-// The direction in which a binding lies: its block is one of the initiator's.
-fn show_binding(ends: Ends) {
-    ends.from_initiator().show();
-}
-
-// One end registers.
-fn register(ends: Ends, name: &[u8]) -> Ends {
-    let registered = ends.register(name);
-    show_binding(registered);
-    registered
+    ends.turn();
+    ends.register(rt, name);
+    ends.arrive(rt);
+    ends.show_binding(rt);
+    ends.turn();
+    ends.register(rt, name);
+    ends.arrive(rt);
+    ends.show_binding(rt);
 }
 
 // More is reserved than is sent: send frees the blocks beyond the need.
-pub fn hold(ends: Ends) -> Ends {
-    heading(b"4. A message arrives, and the pump holds it");
+pub fn hold(rt: &impl Print, ends: &mut Ends) {
+    heading(rt, "4. A message arrives, and the pump holds it");
     let text = b"hand-set: 4.10 bar at 1450 rpm, 7.20 bar at 1950 rpm";
-    ends.send(200, text).announce()
+    ends.send(rt, 200, text);
+    ends.announce(rt);
 }
 
 // A message the same way, while the first one is held.
-pub fn ask(ends: Ends) -> Ends {
-    heading(b"5. Others come and go, both ways, while it is held");
-    ends.pass(9, b"pressure?")
+pub fn ask(rt: &impl Print, ends: &mut Ends) {
+    heading(rt, "5. Others come and go, both ways, while it is held");
+    ends.pass(rt, 9, b"pressure?");
 }
 
 // A message the other way, whose blocks are smaller.
-pub fn reply(ends: Ends) -> Ends {
-    let text = b"4.12 bar at 1452 rpm, valve open";
-    ends.turned().pass(40, text).turned()
+pub fn reply(rt: &impl Print, ends: &mut Ends) {
+    ends.turn();
+    ends.pass(rt, 40, b"4.12 bar at 1452 rpm, valve open");
+    ends.turn();
 }
 
 // Writes four bytes, where the region has them.
 fn overwrite(region: &mut Memory, offset: usize, k: u32) {
-    let n = region.len();
-    if n < 4 {
-        return;
-    }
-    if offset <= n - 4 {
+    if offset <= region.len() - 4 {
         wire::write_u32(region, offset, k);
     }
 }
 
-fn put_header(region: &mut Memory, g: Region, block: u8, k: u32) {
-    let offset = g.blocks_offset as usize + block as usize * g.block_size as usize;
-    overwrite(region, offset, k);
-}
-
 // The sender's core writes over the header of one of its blocks: in its own region it can write what it likes.
-fn write_header(mut ends: Ends, block: u8, k: u32) -> Ends {
-    let n = ends.from.numbers;
-    put_header(&mut ends.region, n.tx, block, k);
-    let line = texts::by(n, b"core writes 0x").hex(k, 8);
-    line.text(b" over the header of block ")
-        .number(wire::wide(block))
-        .print();
-    ends
+fn write_header(rt: &impl Print, ends: &mut Ends, block: u8, k: u32) {
+    let g = ends.from.numbers.tx;
+    let offset = g.blocks_offset as usize + block as usize * g.block_size as usize;
+    overwrite(&mut ends.region, offset, k);
+    println!(rt;
+        "{:<7}core writes 0x{k:08x} over the header of block {block}",
+        texts::name(&ends.from)
+    )
+    .ok();
 }
 
 // Writes over the header of the message that the pushed control message names, before it is pulled.
-fn announce_with(ends: Ends, k: u32) -> Ends {
-    let a = ends.answer;
-    let Answer::Control {
-        kind: _,
-        address: _,
-        block,
-    } = a
-    else {
-        return ends;
-    };
-    write_header(ends, block, k).announce()
+fn announce_with(rt: &impl Print, ends: &mut Ends, k: u32) {
+    if let Ok(Answer::Control { block, .. }) = ends.answer {
+        write_header(rt, ends, block, k);
+        ends.announce(rt);
+    }
 }
 
 // The size of the held message was read at its arrival, and is not read again. Sent once more, it is refused: its block is held.
-pub fn spoil(ends: Ends) -> Ends {
-    heading(b"6. The panel's core writes over the header of the held message");
+pub fn spoil(rt: &impl Print, ends: &mut Ends) {
+    heading(
+        rt,
+        "6. The panel's core writes over the header of the held message",
+    );
     let held = ends.answer;
-    let Answer::Delivered {
-        address,
-        block,
-        length: _,
-    } = held
-    else {
-        return ends;
+    let Ok(Answer::Delivered { address, block, .. }) = held else {
+        return;
     };
-    let ends = write_header(ends, block, 0xFFFFFFFF);
-    ends.view();
-    let again = ends.with(Answer::Control {
+    write_header(rt, ends, block, 0xFFFFFFFF);
+    ends.view(rt);
+    ends.answer = Ok(Answer::Control {
         kind: 0,
         address,
         block,
     });
-    let ends = announce_with(again.push(), 5).with(held);
-    ends.view();
-    ends
+    ends.push(rt);
+    announce_with(rt, ends, 5);
+    ends.answer = held;
+    ends.view(rt);
 }
 
 // A header that is wrong when the message arrives is refused. With the header that send wrote, of the text's five bytes, it goes through.
-pub fn mend(ends: Ends) -> Ends {
-    heading(b"7. A header that is wrong when its message arrives");
-    let ends = ends.send(5, b"flow?");
+pub fn mend(rt: &impl Print, ends: &mut Ends) {
+    heading(rt, "7. A header that is wrong when its message arrives");
+    ends.send(rt, 5, b"flow?");
     let control = ends.answer;
-    let ends = announce_with(ends, 0xFFFFFFFF).with(control).push();
-    announce_with(ends, 5).finish()
+    announce_with(rt, ends, 0xFFFFFFFF);
+    ends.answer = control;
+    ends.push(rt);
+    announce_with(rt, ends, 5);
+    ends.finish(rt);
 }
 
-// A packet's first two bytes are the length of its content.
-fn put_length(region: &mut Memory, g: Region, alignment: u16, index: u32) {
-    let offset = g.ring_offset as usize + alignment as usize + 4 + index as usize;
-    overwrite(region, offset, 0xFFFF);
-}
-
-// The sender's core writes over the packet that the receiver pulls next.
-fn break_packet(mut ends: Ends) -> Ends {
-    let n = ends.from.numbers;
+// The sender's core writes over the packet that the receiver pulls next: its first two bytes are the length of its content.
+fn break_packet(rt: &impl Print, ends: &mut Ends) {
+    let n = &ends.from.numbers;
     let index = ends.to.numbers.read;
-    put_length(&mut ends.region, n.tx, n.alignment, index);
-    let line = texts::by(
-        n,
-        b"core writes ff ff over the length of the packet at index ",
-    );
-    line.number(index).print();
-    ends
+    let offset = n.tx.ring_offset as usize + n.alignment as usize + 4 + index as usize;
+    overwrite(&mut ends.region, offset, 0xFFFF);
+    println!(rt;
+        "{:<7}core writes ff ff over the length of the packet at index {index}",
+        texts::name(&ends.from)
+    )
+    .ok();
 }
 
 // Nobody can tell where the packet ends, so all that is unread is dropped. The ring goes on, and the panel pushes the control message once
 // more.
-pub fn lose(ends: Ends) -> Ends {
-    heading(b"8. The panel's core writes over a packet on its ring");
-    let ends = ends.send(5, b"stop?");
-    let ends = break_packet(ends);
-    ends.pull().pull().push().announce().finish()
+pub fn lose(rt: &impl Print, ends: &mut Ends) {
+    heading(rt, "8. The panel's core writes over a packet on its ring");
+    ends.send(rt, 5, b"stop?");
+    break_packet(rt, ends);
+    ends.pull(rt);
+    ends.pull(rt);
+    ends.push(rt);
+    ends.announce(rt);
+    ends.finish(rt);
 }
 
 // A ring that nobody pulls from fills up. Send is refused then, and the reservation stays as it is: once there is room, the same send goes
 // through.
-pub fn wait(ends: Ends) -> Ends {
-    heading(b"9. The panel's ring is full");
-    let ends = ends.fill_ring().reserve(6);
-    let a = ends.answer;
-    let Answer::Run { start, count: _ } = a else {
-        return ends;
+pub fn wait(rt: &impl Print, ends: &mut Ends) {
+    heading(rt, "9. The panel's ring is full");
+    ends.fill_ring(rt);
+    ends.reserve(rt, 6);
+    let Ok(Answer::Run { start, .. }) = ends.answer else {
+        return;
     };
     let text = b"there?";
-    let ends = ends.send_from(start, text).arrive().empty_ring();
-    ends.send_from(start, text).announce().finish()
+    ends.send_from(rt, start, text);
+    ends.arrive(rt);
+    ends.empty_ring(rt);
+    ends.send_from(rt, start, text);
+    ends.announce(rt);
+    ends.finish(rt);
 }
 
 // What was held is free again, in both tables, and no message starts there.
-pub fn release(ends: Ends) {
-    heading(b"10. The pump is done with the held message");
+pub fn release(rt: &impl Print, ends: &mut Ends) {
+    heading(rt, "10. The pump is done with the held message");
     let held = ends.answer;
-    let ends = ends.finish().with(held);
-    ends.view();
-    ends.turned().show();
+    ends.finish(rt);
+    ends.answer = held;
+    ends.view(rt);
+    ends.turn();
+    ends.show(rt);
 }

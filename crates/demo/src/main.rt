@@ -7,13 +7,22 @@ mod ends;
 mod pictures;
 mod texts;
 
-fn main() {
-    acts::legend();
-    let ends = acts::hold(acts::store(acts::bind(acts::open())));
+fn main(rt: HostRuntime) {
+    let rt = &rt;
+    acts::legend(rt);
+    let mut ends = acts::open(rt);
+    acts::bind(rt, &mut ends);
+    acts::store(rt, &mut ends);
+    acts::hold(rt, &mut ends);
     let held = ends.answer;
-    let ends = acts::reply(acts::ask(ends)).with(held);
-    ends.view();
-    let ends = acts::mend(acts::spoil(ends));
-    let ends = acts::wait(acts::lose(ends)).with(held);
-    acts::release(ends);
+    acts::ask(rt, &mut ends);
+    acts::reply(rt, &mut ends);
+    ends.answer = held;
+    ends.view(rt);
+    acts::spoil(rt, &mut ends);
+    acts::mend(rt, &mut ends);
+    acts::lose(rt, &mut ends);
+    acts::wait(rt, &mut ends);
+    ends.answer = held;
+    acts::release(rt, &mut ends);
 }

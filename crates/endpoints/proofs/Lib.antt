@@ -1,4 +1,5 @@
-pub mod Changes
+pub mod Addressees
+pub mod Bound
 pub mod GoodNames
-pub mod Tests
+pub mod Searches
 pub mod Unused

@@ -1,5 +1,5 @@
 -- Endpoints and stored bindings, by name and address (docs/RULES.md, E).
-use Rattle.std.specs.Prelude.{ℕ, zero, suc, Bool, true, false, not, ◌&&◌, ◌||◌, ◌≡◌, List, ◌∷◌, [], leb, eqb, length, replicate, get_or, set}
+use Rattle.std.specs.Prelude.{ℕ, zero, suc, Bool, true, false, not, ◌&&◌, ◌||◌, ◌≡◌, Option, None, Some, List, ◌∷◌, [], leb, eqb, length, replicate, get_or, set}
 use Rattle.wire.specs.Choice.{pick}
 use Rattle.wire.specs.Bytes.{same}
 use Rattle.blocks.specs.Search.{all, Search, nowhere, found_at, is_found, first_from, any}
@@ -9,16 +9,6 @@ use Rattle.endpoints.specs.declared.Stage.{Stage}
 use Rattle.endpoints.specs.declared.Stage.TheVariants.{Unused, Waiting, Bound}
 use Rattle.endpoints.specs.declared.Endpoint.{Endpoint}
 use Rattle.endpoints.specs.declared.Binding.{Binding}
-use Rattle.endpoints.specs.declared.Addressee.{Addressee}
-use Rattle.endpoints.specs.declared.Addressee.TheVariants.{Nobody}
-use Rattle.endpoints.specs.declared.EndpointTest.{EndpointTest}
-use Rattle.endpoints.specs.declared.EndpointTest.TheVariants.{BoundAt, WaitingAt, Uses, Registered, WaitingFor, Clashes}
-use Rattle.endpoints.specs.declared.BindingTest.{BindingTest}
-use Rattle.endpoints.specs.declared.BindingTest.TheVariants.{Free, Holds}
-use Rattle.blocks.specs.declared.Found.{Found}
-use Rattle.blocks.specs.declared.Found.TheVariants.{Nowhere, At}
-use Rattle.endpoints.specs.declared.EndpointChange.{EndpointChange}
-use Rattle.endpoints.specs.declared.BindingChange.{BindingChange}
 
 abbrev pub no_endpoint : Endpoint
 no_endpoint = record { stage = Unused; address = 0; name = replicate 32 0 }
@@ -111,34 +101,23 @@ unfoldable pub good_name : ℕ → List ℕ → Bool
 good_name m n = leb 1 (length n) && leb (length n) m && not (any (λ b. eqb b 0) n)
 
 -- what the code's question whom a send's address reaches answers
-abbrev pub IsAddressee : Addressee → ℕ → List Endpoint → Type 0
-IsAddressee Nobody a ps = some_endpoint (bound_at a) ps ≡ false
-IsAddressee (Addressee.Bound x) a ps = (x ≡ a) × (some_endpoint (bound_at a) ps ≡ true)
+abbrev pub IsAddressee : Option ℕ → ℕ → List Endpoint → Type 0
+IsAddressee None a ps = some_endpoint (bound_at a) ps ≡ false
+IsAddressee (Some x) a ps = (x ≡ a) × (some_endpoint (bound_at a) ps ≡ true)
 
--- ---- the code's searches: each test by its name, with the address a and the padded name m
+-- ---- what the code searches for by a name: the same, of a name that is kept as m
 
-abbrev pub endpoint_test : EndpointTest → ℕ → List ℕ → Endpoint → Bool
-endpoint_test EndpointTest.Unused a m p = at is_unused p
-endpoint_test BoundAt a m p = at is_bound p && eqb p.address a
-endpoint_test WaitingAt a m p = at is_waiting p && eqb p.address a
-endpoint_test Uses a m p = not (at is_unused p) && eqb p.address a
-endpoint_test Registered a m p = not (at is_unused p) && same p.name m
-endpoint_test WaitingFor a m p = at is_waiting p && same p.name m
-endpoint_test Clashes a m p = at is_bound p && (eqb p.address a || same p.name m)
+abbrev pub registered_as : List ℕ → Endpoint → Bool
+registered_as m p = not (at is_unused p) && same p.name m
 
-abbrev pub binding_test : BindingTest → ℕ → ℕ → List ℕ → Binding → Bool
-binding_test Free c a m b = not b.stored
-binding_test Holds c a m b = all (b.stored ∷ same b.name m ∷ lies c b.start b.count ∷ [])
-binding_test BindingTest.Clashes c a m b = b.stored && (eqb b.address a || same b.name m)
+abbrev pub waiting_as : List ℕ → Endpoint → Bool
+waiting_as m p = at is_waiting p && same p.name m
 
--- ---- what a call changes, as the code hands it back: x at the place that was found
+abbrev pub clashes_as : ℕ → List ℕ → Endpoint → Bool
+clashes_as a m p = at is_bound p && (eqb p.address a || same p.name m)
 
-abbrev pub put_at {ℓ} : {A : Type ℓ} → Found → A → List A → List A
-put_at Nowhere x l = l
-put_at (At i) x l = set l i x
+abbrev pub holds_as : ℕ → List ℕ → Binding → Bool
+holds_as c m b = all (b.stored ∷ same b.name m ∷ lies c b.start b.count ∷ [])
 
-abbrev pub endpoints_after : EndpointChange → List Endpoint → List Endpoint
-endpoints_after c ps = put_at c.place c.endpoint ps
-
-abbrev pub bindings_after : BindingChange → List Binding → List Binding
-bindings_after c bs = put_at c.place c.binding bs
+abbrev pub clashes_stored_as : ℕ → List ℕ → Binding → Bool
+clashes_stored_as a m b = b.stored && (eqb b.address a || same b.name m)

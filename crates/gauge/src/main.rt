@@ -1,7 +1,7 @@
 // What a pump runs with: each value of its calibration as it was set by hand against a gauge, else as the incoming sheet has it.
 #![tactic(auto)]
 
-use lines::Line;
+use lines::Hex;
 use sheet::Picked;
 
 // A sheet is a list of fields: tag, length, value. Tags from 0x80 are groups.
@@ -21,32 +21,33 @@ const INCOMING: [u8; 12] = [
 ];
 
 // The value is part of one of the two sheets, and nothing is copied.
-fn show<'a>(name: &[u8], hand: &'a [u8], incoming: &'a [u8], path: &[u8]) {
-    let value = sheet::pick(hand, incoming, path);
-    let line = Line::new().text(name).text(b":").hex_bytes(value);
+fn show(rt: &impl Print, name: &str, hand: &[u8], incoming: &[u8], path: &[u8]) {
+    let value = Hex(sheet::pick(hand, incoming, path));
     match sheet::ask_pick(hand, incoming, path) {
-        Picked::InHand { .. } => line.text(b", set by hand").print(),
-        Picked::InIncoming { .. } => line.text(b", incoming").print(),
-        Picked::Refused(x) => line.text(b" ").meaning(x).print(),
-    }
+        Ok(Picked::InHand { .. }) => println!(rt; "{name}:{value}, set by hand").ok(),
+        Ok(Picked::InIncoming { .. }) => println!(rt; "{name}:{value}, incoming").ok(),
+        Err(x) => println!(rt; "{name}: {x}").ok(),
+    };
 }
 
-fn main() {
-    let hand = HAND;
-    let incoming = INCOMING;
-    show(b"scale", &hand, &incoming, &[PUMP, GAUGE, SCALE]);
-    show(b"offset", &hand, &incoming, &[PUMP, GAUGE, OFFSET]);
-    show(b"the gauge as a whole", &hand, &incoming, &[PUMP, GAUGE]);
+fn main(rt: HostRuntime) {
+    let rt = &rt;
+    let scale = [PUMP, GAUGE, SCALE];
+    show(rt, "scale", &HAND, &INCOMING, &scale);
+    show(rt, "offset", &HAND, &INCOMING, &[PUMP, GAUGE, OFFSET]);
+    show(rt, "the gauge as a whole", &HAND, &INCOMING, &[PUMP, GAUGE]);
     show(
-        b"scale of another pump",
-        &hand,
-        &incoming,
+        rt,
+        "scale of another pump",
+        &HAND,
+        &INCOMING,
         &[0x82, GAUGE, SCALE],
     );
     show(
-        b"scale, with the hand-set sheet cut short",
-        &hand[..7],
-        &incoming,
-        &[PUMP, GAUGE, SCALE],
+        rt,
+        "scale, with the hand-set sheet cut short",
+        &HAND[..7],
+        &INCOMING,
+        &scale,
     );
 }

@@ -22,7 +22,7 @@ use Rattle.blocks.proofs.Tables.{run_of, first_entry}
 use Rattle.endpoints.specs.Endpoints.{no_endpoint, at, is_unused, is_bound, has_address, bound_at, receives_at, registered, waiting_for, clashes, clashes_stored, endpoint_at, binding_at, some_endpoint, some_binding, unused_from, holds, good_name, bound_now}
 use Rattle.endpoints.specs.declared.Stage.TheVariants.{Waiting, Bound}
 use Rattle.endpoints.specs.declared.Endpoint.{Endpoint}
-use Rattle.endpoints.proofs.Tests.{bound_already}
+use Rattle.endpoints.proofs.Bound.{bound_already}
 use Rattle.icbmsg.specs.Outcome.{nothing, control, delivery, Outcome, refused, guard}
 use Rattle.icbmsg.specs.Ends.{is_open, whole, changed}
 use Rattle.icbmsg.specs.Registering.{announcement, followed, initiates, register_of}

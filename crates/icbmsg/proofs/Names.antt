@@ -19,7 +19,7 @@ use Rattle.icbmsg.specs.Outcome.{nothing, delivery, Outcome, ring_refused, refus
 use Rattle.blocks.specs.Search.{Search, nowhere, found_at, is_found}
 use Rattle.blocks.specs.Tables.{entry, is_use, in_use, lies, starts, starts_data, free_entry, run_entry, freed, taken, blocks_for, free_run}
 use Rattle.endpoints.specs.Endpoints.{uses, no_endpoint, no_binding, at, is_unused, is_waiting, is_bound, has_address, bound_at, receives_at, registered, waiting_for, holds, clashes, clashes_stored, endpoint_at, binding_at, some_endpoint, some_binding, unused_from, good_name, waiting_at, bound_now}
-use Rattle.endpoints.proofs.Tests.{bound_is}
+use Rattle.endpoints.proofs.Bound.{bound_is}
 use Rattle.icbmsg.specs.Ends.{is_open, whole, found_or, changed}
 use Rattle.icbmsg.specs.declared.Opening.{Opening}
 use Rattle.icbmsg.specs.Rings.{transmit_ring, receive_ring, push_outcome, pull_outcome, start_of}

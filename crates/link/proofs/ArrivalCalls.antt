@@ -3,6 +3,7 @@ use Prim.Native.Nat.{ℕ, ◌+◌, ◌≤◌, ◌<◌, ◌^◌}
 use mathlib.Core.Bool.{true, false}
 use mathlib.Core.Path.{◌≡◌, refl, sym, ap, ◌∙◌}
 use mathlib.Core.List.{List, []}
+use Rattle.std.specs.Prelude.{Result, Ok, Err}
 use native.Mathlib.Omega.{arith}
 use lib.Dec.{ltb}
 use lib.ListN.{length, set}
@@ -28,20 +29,11 @@ use Rattle.icbmsg.specs.declared.Numbers.{Numbers}
 use Rattle.icbmsg.specs.End.{End}
 use Rattle.checks.specs.Parts.{joined}
 use Rattle.checks.specs.Decisions.{DataAs, ReleaseAs, NamedAs}
-use Rattle.checks.specs.declared.Run.{Run}
 use Rattle.checks.specs.declared.arrivals.Delivery.{Delivery}
 use Rattle.checks.specs.declared.arrivals.Binds.{Binds}
 use Rattle.checks.specs.declared.arrivals.Named.{Named}
 use Rattle.checks.proofs.OpenSays.{is_open_lem, open_says}
-use Rattle.link.specs.Answers.{answered, called_of}
-use Rattle.link.specs.Parts.{SaysOnly}
-use Rattle.link.specs.declared.Answer.{Answer}
-use Rattle.link.specs.declared.Called.{Called}
 use Rattle.link.proofs.MessageCalls.{joined-sent}
-
--- an answer that changes no endpoint and no binding
-pub called-only : (r : Called) (a : Answer) (n : Numbers) (t : List ℕ) (ps : List Endpoint) (bs : List Binding) → SaysOnly r a → called_of r n t ps bs ≡ answered a (joined n t ps bs)
-called-only r a n t ps bs h = rw (h.answer, h.endpoints ps, h.bindings bs)
 
 -- a live run of transmit blocks lies in the table
 pub sent-ends : (n : Numbers) (t : List ℕ) (u : Use) (s : ℕ) (z : Entry) → open_numbers n.alignment n.tx n.rx n.write n.read ≡ true →
@@ -52,16 +44,16 @@ sent-ends n t u s z h k q =
 
 -- ---- kind 0
 
-module _ (n : Numbers) (t : List ℕ) (ps : List Endpoint) (a b : ℕ) (r : List ℕ) (m : Delivery) (bs : List Binding) (h : DataAs m (joined n t ps bs) a b r) where
-  pub data_refused : (x : Refusal) → m ≡ Delivery.Refused x → refused (joined n t ps bs) (number_of x) ≡ answer (data_rule (joined n t ps bs) a b) r
+module _ (n : Numbers) (t : List ℕ) (ps : List Endpoint) (a b : ℕ) (r : List ℕ) (m : Result Delivery Refusal) (bs : List Binding) (h : DataAs m (joined n t ps bs) a b r) where
+  pub data_refused : (x : Refusal) → m ≡ Err x → refused (joined n t ps bs) (number_of x) ≡ answer (data_rule (joined n t ps bs) a b) r
   data_refused x q = let w = rw q at h in sym w
 
-  module _ (p k c : ℕ) (q : m ≡ Delivery.To p k c) where
-    pub data_fits : (1 ≤ c) × (b + c ≤ 256) × (k < 2 ^ 24) × (p < 8)
+  module _ (d : Delivery) (q : m ≡ Ok d) where
+    pub data_fits : (1 ≤ d.count) × (b + d.count ≤ 256) × (d.length < 2 ^ 24) × (d.place < 8)
     data_fits = let w = rw q at h in (w.1, w.2, w.3, w.4)
 
-    pub data_taken : (t' : List ℕ) (ps' : List Endpoint) → Changed t t' 1568 (taken (table_of t 1568) ReceivedData b c a k) → ps' ≡ bound_now ps a (found_at p) →
-        accepted (joined n t' ps' bs) (delivery a b k) ≡ answer (data_rule (joined n t ps bs) a b) r
+    pub data_taken : (t' : List ℕ) (ps' : List Endpoint) → Changed t t' 1568 (taken (table_of t 1568) ReceivedData b d.count a d.length) → ps' ≡ bound_now ps a (found_at d.place) →
+        accepted (joined n t' ps' bs) (delivery a b d.length) ≡ answer (data_rule (joined n t ps bs) a b) r
     unfolding changed
     data_taken t' ps' z y = let w = rw q at h in sym (w.0 ∙ rw (z.table, z.lower 0 (omega arith), y))
 
@@ -80,11 +72,11 @@ module _ (n : Numbers) (t : List ℕ) (b : ℕ) (ps : List Endpoint) (bs : List 
 
 -- ---- kind 3
 
-module _ (n : Numbers) (t : List ℕ) (ps : List Endpoint) (bs : List Binding) (a b : ℕ) (r : Run) (h : ReleaseAs r (joined n t ps bs) a b) where
-  pub unbind_refused : (x : Refusal) → r ≡ Run.Refused x → refused (joined n t ps bs) (number_of x) ≡ released_bound_of (joined n t ps bs) a b
+module _ (n : Numbers) (t : List ℕ) (ps : List Endpoint) (bs : List Binding) (a b : ℕ) (r : Result Entry Refusal) (h : ReleaseAs r (joined n t ps bs) a b) where
+  pub unbind_refused : (x : Refusal) → r ≡ Err x → refused (joined n t ps bs) (number_of x) ≡ released_bound_of (joined n t ps bs) a b
   unbind_refused x q = let w = rw q at h in sym w
 
-  module _ (z : Entry) (q : r ≡ Run.Live z) where
+  module _ (z : Entry) (q : r ≡ Ok z) where
     pub unbind_live : (starts SentBinding n.tx.block_count (table_of t 0) b ≡ true) × (z ≡ entry (table_of t 0) b)
     unbind_live = let w = rw q at h in (w.1, w.2)
 
@@ -95,23 +87,23 @@ module _ (n : Numbers) (t : List ℕ) (ps : List Endpoint) (bs : List Binding) (
 
 -- ---- kind 2
 
-module _ (n : Numbers) (t : List ℕ) (ps : List Endpoint) (bs : List Binding) (a b : ℕ) (l : List ℕ) (r : Named) (h : NamedAs r (joined n t ps bs) a b l) where
-  pub bind_refused : (x : Refusal) → r.binds ≡ Binds.Refused x → refused (joined n t ps bs) (number_of x) ≡ answer (bound_rule (joined n t ps bs) a b) l
-  bind_refused x q = let w = rw q at h in sym w.0
+module _ (n : Numbers) (t : List ℕ) (ps : List Endpoint) (bs : List Binding) (a b : ℕ) (l : List ℕ) (r : Result Named Refusal) (h : NamedAs r (joined n t ps bs) a b l) where
+  pub bind_refused : (x : Refusal) → r ≡ Err x → refused (joined n t ps bs) (number_of x) ≡ answer (bound_rule (joined n t ps bs) a b) l
+  bind_refused x q = let w = rw q at h in sym w
 
-  pub bind_waiting : (i : ℕ) → r.binds ≡ Binds.Waiting i →
-      accepted (joined n t (set ps i (record { stage = Bound; address = a; name = r.name })) bs) (control 3 a b) ≡ answer (bound_rule (joined n t ps bs) a b) l
-  unfolding changed
-  bind_waiting i q = let w = rw q at h in sym w.0
+  module _ (m : Named) (q : r ≡ Ok m) where
+    pub bind_blocks : (1 ≤ m.count) × (b + m.count ≤ 256)
+    bind_blocks = let w = rw q at h in (w.1, w.2)
 
-  module _ (j : ℕ) (q : r.binds ≡ Binds.Stored j) where
-    pub bind_blocks : (1 ≤ r.count) × (b + r.count ≤ 256)
-    bind_blocks = let w = rw q at h in w.1
-
-    pub bind_stored : (t' : List ℕ) → Changed t t' 1568 (taken (table_of t 1568) StoredBinding b r.count a 0) →
-        accepted (joined n t' ps (set bs j (record { stored = true; address = a; start = b; count = r.count; name = r.name }))) nothing ≡ answer (bound_rule (joined n t ps bs) a b) l
+    pub bind_waiting : (i : ℕ) → m.binds ≡ Binds.Waiting i →
+        accepted (joined n t (set ps i (record { stage = Bound; address = a; name = m.name })) bs) (control 3 a b) ≡ answer (bound_rule (joined n t ps bs) a b) l
     unfolding changed
-    bind_stored t' c = let w = rw q at h in sym (w.0 ∙ rw (c.table, c.lower 0 (omega arith)))
+    bind_waiting i z = let w = rw q at h in let y = rw z at w.0 in sym y
+
+    pub bind_stored : (j : ℕ) → m.binds ≡ Binds.Stored j → (t' : List ℕ) → Changed t t' 1568 (taken (table_of t 1568) StoredBinding b m.count a 0) →
+        accepted (joined n t' ps (set bs j (record { stored = true; address = a; start = b; count = m.count; name = m.name }))) nothing ≡ answer (bound_rule (joined n t ps bs) a b) l
+    unfolding changed
+    bind_stored j z t' c = let w = rw q at h in let y = rw z at w.0 in sym (y ∙ rw (c.table, c.lower 0 (omega arith)))
 
 -- ---- any arrival
 

@@ -3,6 +3,7 @@ use Prim.Native.Nat.{ℕ, ◌+◌, ◌-◌, ◌*◌, ◌≤◌}
 use mathlib.Core.Bool.{Bool, true, false}
 use mathlib.Core.Path.{◌≡◌, refl, sym, ap, ◌∙◌}
 use mathlib.Core.List.{List, []}
+use Rattle.std.specs.Prelude.{Result, Ok, Err}
 use native.Mathlib.Omega.{arith}
 use lib.ListN.{take, drop}
 use Rattle.refusal.specs.Numbers.{number_of}
@@ -13,16 +14,19 @@ use Rattle.blocks.specs.declared.Entry.{Entry}
 use Rattle.endpoints.specs.declared.Endpoint.{Endpoint}
 use Rattle.endpoints.specs.declared.Binding.{Binding}
 use Rattle.tables.specs.Compact.{table_of, Changed}
-use Rattle.icbmsg.specs.Outcome.{nothing, a_run, control, Outcome, refused, accepted, written, placed, check}
+use Rattle.icbmsg.specs.Outcome.{without_place, nothing, a_run, control, Outcome, refused, accepted, written, placed, check}
 use Rattle.icbmsg.specs.Ends.{is_open, whole, block_at, changed, with_sent, with_held}
 use Rattle.icbmsg.specs.Messages.{reserve_of, room_of, send_of, drop_of, view_of, done_of}
 use Rattle.icbmsg.specs.declared.Numbers.{Numbers}
 use Rattle.icbmsg.specs.End.{End}
 use Rattle.checks.specs.Parts.{joined}
 use Rattle.checks.specs.Decisions.{ReservesAs, SendAs}
-use Rattle.checks.specs.declared.Space.{Space}
+use Rattle.checks.specs.declared.Blocks.{Blocks}
 use Rattle.checks.specs.declared.Sending.{Sending}
 use Rattle.checks.proofs.Runs.{room-part, view-part}
+use Rattle.link.specs.Answers.{answered, place_of}
+use Rattle.link.specs.declared.Answer.TheVariants.{Accepted}
+use Rattle.link.specs.declared.Place.{Place}
 
 module _ (n : Numbers) (t t' : List ℕ) (l : List Entry) (ps : List Endpoint) (bs : List Binding) where
   pub joined-sent : Changed t t' 0 l → joined n t' ps bs ≡ with_sent (joined n t ps bs) l
@@ -35,18 +39,18 @@ module _ (n : Numbers) (t t' : List ℕ) (l : List Entry) (ps : List Endpoint) (
 
 -- ---- reserve
 
-module _ (n : Numbers) (t : List ℕ) (k : ℕ) (r : Space) (h : ReservesAs r n t k) where
-  pub space_refused : (x : Refusal) → r ≡ Space.Refused x → (ps : List Endpoint) (bs : List Binding) → refused (joined n t ps bs) (number_of x) ≡ reserve_of (joined n t ps bs) k
+module _ (n : Numbers) (t : List ℕ) (k : ℕ) (r : Result Blocks Refusal) (h : ReservesAs r n t k) where
+  pub space_refused : (x : Refusal) → r ≡ Err x → (ps : List Endpoint) (bs : List Binding) → refused (joined n t ps bs) (number_of x) ≡ reserve_of (joined n t ps bs) k
   space_refused x q ps bs = let w = rw q at h in sym (w ps bs)
 
-  module _ (s m : ℕ) (q : r ≡ Space.At s m) where
-    pub space_at : (1 ≤ m) × (s + m ≤ 256)
+  module _ (m : Blocks) (q : r ≡ Ok m) where
+    pub space_at : (1 ≤ m.count) × (m.start + m.count ≤ 256)
     space_at = let w = rw q at h in (w.1, w.2)
 
-    pub reserved : (t' : List ℕ) → Changed t t' 0 (taken (table_of t 0) Reserved s m 0 0) → (ps : List Endpoint) (bs : List Binding) → accepted (joined n t' ps bs) (a_run s m) ≡ reserve_of (joined n t ps bs) k
+    pub reserved : (t' : List ℕ) → Changed t t' 0 (taken (table_of t 0) Reserved m.start m.count 0 0) → (ps : List Endpoint) (bs : List Binding) → accepted (joined n t' ps bs) (a_run m.start m.count) ≡ reserve_of (joined n t ps bs) k
     reserved t' c ps bs =
         let w = rw q at h in
-        ap (λ (e : End). accepted e (a_run s m)) (joined-sent n t t' (taken (table_of t 0) Reserved s m 0 0) ps bs c) ∙ sym (w.3 ps bs ∙ rw (← w.0))
+        ap (λ (e : End). accepted e (a_run m.start m.count)) (joined-sent n t t' (taken (table_of t 0) Reserved m.start m.count 0 0) ps bs c) ∙ sym (w.3 ps bs ∙ rw (← w.0))
 
 -- ---- drop
 
@@ -121,17 +125,33 @@ module _ (o : Outcome) (b z : ℕ) (h : b ≡ o.begin) (k : z ≡ o.size) where
   pub part-begins : (q : ℕ) → b + q ≡ q + o.begin
   part-begins q = omega arith
 
+-- where the code's place lies; a refusal has none
+module _ (r : Result Place Refusal) (e : End) (o : Outcome) where
+  pub placed_there : (p : Place) → r ≡ Ok p → place_of r e ≡ o → (p.begin ≡ o.begin) × (p.size ≡ o.size)
+  placed_there p q h = let k : place_of (Ok p) e ≡ o = ap (λ (r : Result Place Refusal). place_of r e) (sym q) ∙ h in (ap (λ (o : Outcome). o.begin) k, ap (λ (o : Outcome). o.size) k)
+
+  pub no_part : (x : Refusal) → r ≡ Err x → place_of r e ≡ o → (0 ≡ o.begin) × (0 ≡ o.size)
+  no_part x q h = let k : place_of (Err x) e ≡ o = ap (λ (r : Result Place Refusal). place_of r e) (sym q) ∙ h in (ap (λ (o : Outcome). o.begin) k, ap (λ (o : Outcome). o.size) k)
+
+-- the question after a place: a refusal's number, or accepted
+module _ (r : Result Place Refusal) (e : End) where
+  pub asked_no : (x : Refusal) → r ≡ Err x → answered (Err x) e ≡ without_place (place_of r e)
+  asked_no x q = rw q refl
+
+  pub asked_yes : (p : Place) → r ≡ Ok p → answered (Ok Accepted) e ≡ without_place (place_of r e)
+  asked_yes p q = rw q refl
+
 -- ---- send
 
-module _ (n : Numbers) (t : List ℕ) (ps : List Endpoint) (l s a k : ℕ) (r : Sending) (bs : List Binding) (h : SendAs r (joined n t ps bs) l s a k) where
-  pub send-refused : (x : Refusal) → r ≡ Sending.Refused x → send_of (joined n t ps bs) l s a k ≡ refused (joined n t ps bs) (number_of x)
+module _ (n : Numbers) (t : List ℕ) (ps : List Endpoint) (l s a k : ℕ) (r : Result Sending Refusal) (bs : List Binding) (h : SendAs r (joined n t ps bs) l s a k) where
+  pub send-refused : (x : Refusal) → r ≡ Err x → send_of (joined n t ps bs) l s a k ≡ refused (joined n t ps bs) (number_of x)
   send-refused x q = rw q at h
 
-  module _ (b c m : ℕ) (q : r ≡ Sending.Fits b c m) where
-    pub send-fits : SendAs (Sending.Fits b c m) (joined n t ps bs) l s a k
+  module _ (m : Sending) (q : r ≡ Ok m) where
+    pub send-fits : SendAs (Ok m) (joined n t ps bs) l s a k
     send-fits = rw q at h
 
     -- the end with both changes of the table
-    pub sent : (t₁ t₂ : List ℕ) → Changed t t₁ 0 (freed (table_of t 0) s c) → Changed t₁ t₂ 0 (taken (table_of t₁ 0) SentData s m b k) → joined n t₂ ps bs ≡ with_sent (joined n t ps bs) (taken (freed (table_of t 0) s c) SentData s m b k)
+    pub sent : (t₁ t₂ : List ℕ) → Changed t t₁ 0 (freed (table_of t 0) s m.held) → Changed t₁ t₂ 0 (taken (table_of t₁ 0) SentData s m.count m.address k) → joined n t₂ ps bs ≡ with_sent (joined n t ps bs) (taken (freed (table_of t 0) s m.held) SentData s m.count m.address k)
     unfolding changed
     sent t₁ t₂ x y = rw (y.table, y.upper 1568 (omega arith), x.table, x.upper 1568 (omega arith))

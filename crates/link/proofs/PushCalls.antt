@@ -2,6 +2,7 @@
 use Prim.Native.Nat.{ℕ, ◌+◌, ◌≤◌}
 use mathlib.Core.Path.{◌≡◌, refl, sym, ap, ◌∙◌}
 use mathlib.Core.List.{List, [], ◌∷◌, ◌++◌}
+use Rattle.std.specs.Prelude.{Result, Ok, Err}
 use native.Mathlib.Omega.{arith}
 use lib.ListN.{length, take}
 use borrow.Author.Tests.{le-leb}
@@ -22,11 +23,8 @@ use Rattle.icbmsg.specs.declared.Numbers.{Numbers}
 use Rattle.icbmsg.specs.End.{End}
 use Rattle.icbmsg.proofs.AllOrNothing.{handed-answer}
 use Rattle.checks.specs.Parts.{joined}
-use Rattle.link.specs.Answers.{writing, pushed_of}
+use Rattle.link.specs.Answers.{writing}
 use Rattle.link.specs.Parts.{HandedAs, HandsOn, behind_ring}
-use Rattle.link.specs.declared.Answer.{Answer}
-use Rattle.link.specs.declared.Pushed.{Pushed}
-use Rattle.link.specs.declared.announcements.Handed.{Handed}
 
 -- ---- the rule behind the ring
 
@@ -40,25 +38,25 @@ pub not_to_push : (e x : End) (tx : List ℕ) (o : Outcome) → o ≡ accepted x
 unfolding wrote all_or_nothing
 not_to_push e x tx o h = (rw h, rw h)
 
-handed_no : (e : End) (o : Outcome) (ws : List (ℕ × ℕ)) (y : Refusal) (a : RingAnswer) → HandedAs (Handed.Refused y) a → handed_on e o ws a ≡ refused e (number_of y)
+handed_no : (e : End) (o : Outcome) (ws : List (ℕ × ℕ)) (y : Refusal) (a : RingAnswer) → HandedAs (Err y) a → handed_on e o ws a ≡ refused e (number_of y)
 handed_no e o ws y (ringNo n) h = rw h
 handed_no e o ws y (ringYes k i) h = absurd h
 handed_no e o ws y (ringDropped n i) h = rw h
 
-handed_yes : (e : End) (o : Outcome) (ws : List (ℕ × ℕ)) (w : ℕ) (a : RingAnswer) → HandedAs (Handed.At w) a → handed_on e o ws a ≡ with_packet o ws w
+handed_yes : (e : End) (o : Outcome) (ws : List (ℕ × ℕ)) (w : ℕ) (a : RingAnswer) → HandedAs (Ok w) a → handed_on e o ws a ≡ with_packet o ws w
 handed_yes e o ws w (ringNo n) h = absurd h
 handed_yes e o ws w (ringYes k i) h = rw h
 handed_yes e o ws w (ringDropped n i) h = absurd h
 
 -- The rule gives a control message, leaves the end x and writes ws; the code's ring has answered h to the push of c, behind the writes vs.
-module _ (n : Numbers) (t : List ℕ) (ps : List Endpoint) (bs : List Binding) (tx tx' : List ℕ) (o : Outcome) (x : End) (k a b : ℕ) (vs ws : List (ℕ × ℕ)) (c : List ℕ) (h : Handed)
+module _ (n : Numbers) (t : List ℕ) (ps : List Endpoint) (bs : List Binding) (tx tx' : List ℕ) (o : Outcome) (x : End) (k a b : ℕ) (vs ws : List (ℕ × ℕ)) (c : List ℕ) (h : Result ℕ Refusal)
     (q : o ≡ written x (control k a b) ws) (same : vs ≡ ws) (is : c ≡ k ∷ a ∷ b ∷ []) (m : HandsOn h n tx vs c tx') where
   on_ring : let p : RingOutcome = ringPush tx (ring_of n.alignment n.tx) n.write c in
       behind_ring (joined n t ps bs) tx o ≡ handed_on (joined n t ps bs) (written x (control k a b) ws) p.region p.answer
   unfolding all_or_nothing
   on_ring = rw (q, is) (handed-answer (joined n t ps bs) tx (written x (control k a b) ws) k a b)
 
-  pub ring_refuses : (y : Refusal) → h ≡ Handed.Refused y → let r : Outcome = behind_ring (joined n t ps bs) tx o in (refused (joined n t ps bs) (number_of y) ≡ without_writes r) × (tx' ≡ wrote tx r.tx)
+  pub ring_refuses : (y : Refusal) → h ≡ Err y → let r : Outcome = behind_ring (joined n t ps bs) tx o in (refused (joined n t ps bs) (number_of y) ≡ without_writes r) × (tx' ≡ wrote tx r.tx)
   unfolding wrote
   ring_refuses y z =
       let w = rw z at m in
@@ -66,7 +64,7 @@ module _ (n : Numbers) (t : List ℕ) (ps : List Endpoint) (bs : List Binding) (
       let r = on_ring ∙ handed_no (joined n t ps bs) (written x (control k a b) ws) p.region y p.answer w.0 in
       (rw r, w.1 ∙ ap (λ (o : Outcome). wrote tx o.tx) (sym r))
 
-  pub ring_takes : (i : ℕ) → h ≡ Handed.At i → let r : Outcome = behind_ring (joined n t ps bs) tx o in (accepted (with_write x i) (control k a b) ≡ without_writes r) × (tx' ≡ wrote tx r.tx)
+  pub ring_takes : (i : ℕ) → h ≡ Ok i → let r : Outcome = behind_ring (joined n t ps bs) tx o in (accepted (with_write x i) (control k a b) ≡ without_writes r) × (tx' ≡ wrote tx r.tx)
   ring_takes i z =
       let w = rw z at m in
       let p : RingOutcome = ringPush tx (ring_of n.alignment n.tx) n.write c in
@@ -80,40 +78,35 @@ module _ (n : Numbers) (c s s' : List ℕ) (x : RingAnswer) where
   p = ringPush s (ring_of n.alignment n.tx) n.write c
 
   -- a push alone
-  pub hands_alone : (h : Handed) → HandedAs h x → x ≡ p.answer → s' ≡ wrote s p.region → HandsOn h n s [] c s'
+  pub hands_alone : (h : Result ℕ Refusal) → HandedAs h x → x ≡ p.answer → s' ≡ wrote s p.region → HandsOn h n s [] c s'
   unfolding wrote
-  hands_alone (Handed.At w) y q z = (rw (← q) y, z)
-  hands_alone (Handed.Refused v) y q z = (rw (← q) y, z ∙ quiet p.answer (rw q at y) (refusals.push s (ring_of n.alignment n.tx) n.write c))
+  hands_alone (Ok w) y q z = (rw (← q) y, z)
+  hands_alone (Err v) y q z = (rw (← q) y, z ∙ quiet p.answer (rw q at y) (refusals.push s (ring_of n.alignment n.tx) n.write c))
     where
-      quiet : (a : RingAnswer) → HandedAs (Handed.Refused v) a → PlainAt p a → wrote s p.region ≡ s
+      quiet : (a : RingAnswer) → HandedAs (Err v) a → PlainAt p a → wrote s p.region ≡ s
       quiet (ringNo m) y k = rw k.1
       quiet (ringYes m i) y k = absurd y
       quiet (ringDropped m i) y k = absurd k
 
   -- and behind the writes ws
-  pub hands_behind : (ws : List (ℕ × ℕ)) (h : Handed) → HandedAs h x → x ≡ (behind_writes ws p p.answer).answer → s' ≡ wrote s (behind_writes ws p p.answer).region → HandsOn h n s ws c s'
+  pub hands_behind : (ws : List (ℕ × ℕ)) (h : Result ℕ Refusal) → HandedAs h x → x ≡ (behind_writes ws p p.answer).answer → s' ≡ wrote s (behind_writes ws p p.answer).region → HandsOn h n s ws c s'
   unfolding wrote
   hands_behind ws h y q z = go h p.answer refl (refusals.push s (ring_of n.alignment n.tx) n.write c) (rw q at y) z
     where
-      go : (h : Handed) (a : RingAnswer) → p.answer ≡ a → PlainAt p a → HandedAs h (behind_writes ws p a).answer → s' ≡ wrote s (behind_writes ws p a).region → HandsOn h n s ws c s'
-      go (Handed.At w) (ringNo m) r k y z = absurd (rw r at y)
-      go (Handed.At w) (ringYes m i) r k y z = (rw r y, z)
-      go (Handed.At w) (ringDropped m i) r k y z = absurd k
-      go (Handed.Refused v) (ringNo m) r k y z = (y, z ∙ rw k.1)
-      go (Handed.Refused v) (ringYes m i) r k y z = absurd y
-      go (Handed.Refused v) (ringDropped m i) r k y z = absurd k
+      go : (h : Result ℕ Refusal) (a : RingAnswer) → p.answer ≡ a → PlainAt p a → HandedAs h (behind_writes ws p a).answer → s' ≡ wrote s (behind_writes ws p a).region → HandsOn h n s ws c s'
+      go (Ok w) (ringNo m) r k y z = absurd (rw r at y)
+      go (Ok w) (ringYes m i) r k y z = (rw r y, z)
+      go (Ok w) (ringDropped m i) r k y z = absurd k
+      go (Err v) (ringNo m) r k y z = (y, z ∙ rw k.1)
+      go (Err v) (ringYes m i) r k y z = absurd y
+      go (Err v) (ringDropped m i) r k y z = absurd k
 
 -- a message that lies in the region
 pub announced-inside : (s : List ℕ) (g : Ring) (w p : ℕ) (bs c : List ℕ) → p + length bs ≤ length s → announce_rule s g w p bs c ≡ behind_writes (writes (straight p) bs) (ringPush s g w c) (ringPush s g w c).answer
 unfolding announce_rule
 announced-inside s g w p bs c h = rw (le-leb (p + length bs) (length s) h)
 
--- ---- what the code hands back
-
--- a refusal
-pub refused_of : (r : Pushed) (n : Numbers) (t : List ℕ) (ps : List Endpoint) (bs : List Binding) (x : Refusal) → r ≡ record { answer = Answer.Refused x; write = n.write } →
-    pushed_of r n t ps bs ≡ refused (joined n t ps bs) (number_of x)
-refused_of r n t ps bs x h = rw h
+-- ---- the end that is left
 
 -- the end with its own write index
 pub joined-writing : (n : Numbers) (t : List ℕ) (ps : List Endpoint) (bs : List Binding) (w : ℕ) (x : End) → joined n t ps bs ≡ x → joined (writing n w) t ps bs ≡ with_write x w

@@ -3,6 +3,7 @@ use Prim.Native.Nat.{ℕ, ◌+◌, ◌*◌, ◌≤◌, ◌<◌}
 use mathlib.Core.Bool.{Bool, true, false}
 use mathlib.Core.Path.{◌≡◌, refl, sym, ap, ◌∙◌}
 use mathlib.Core.List.{List, [], ◌∷◌}
+use Rattle.std.specs.Prelude.{Result, Ok, Err}
 use native.Mathlib.Omega.{arith}
 use lib.Dec.{leb, ltb}
 use lib.ListN.{length, get_or, set}
@@ -19,10 +20,9 @@ use Rattle.blocks.proofs.LeastBlocks.{blocks_hold}
 use Rattle.blocks.proofs.Tables.{every}
 use Rattle.blocks.proofs.Search.{first-at}
 use Rattle.blocks.proofs.Loops.{in_list}
-use Rattle.endpoints.specs.Endpoints.{no_binding, holds, binding_at, binding_test, unused_from}
+use Rattle.endpoints.specs.Endpoints.{no_binding, holds, holds_as, binding_at, unused_from}
 use Rattle.endpoints.specs.declared.Endpoint.{Endpoint}
 use Rattle.endpoints.specs.declared.Binding.{Binding}
-use Rattle.endpoints.specs.declared.BindingTest.TheVariants.{Holds}
 use Rattle.endpoints.specs.declared.Stage.TheVariants.{Waiting, Bound}
 use Rattle.tables.specs.Compact.{table_of, Changed}
 use Rattle.icbmsg.specs.Outcome.{nothing, Outcome, refused, accepted, without_writes}
@@ -32,19 +32,11 @@ use Rattle.icbmsg.specs.declared.Numbers.{Numbers}
 use Rattle.icbmsg.specs.End.{End}
 use Rattle.checks.specs.Parts.{joined}
 use Rattle.checks.specs.Decisions.{FitAs, PlaceAs}
-use Rattle.checks.specs.declared.registrations.Place.{Place}
-use Rattle.checks.specs.declared.Space.{Space}
+use Rattle.checks.specs.declared.registrations.Registering.{Registering}
+use Rattle.checks.specs.declared.Blocks.{Blocks}
 use Rattle.checks.proofs.OpenSays.{Sound, is_open_lem, open_says, run_inside, whole_says}
 use Rattle.checks.proofs.Runs.{fit_at}
-use Rattle.link.specs.Answers.{writing, registered_of}
-use Rattle.link.specs.Parts.{RefusesRegistration, behind_ring}
-use Rattle.link.specs.declared.Answer.TheVariants.{Refused}
-use Rattle.link.specs.declared.Registered.{Registered}
-use Rattle.link.proofs.ArrivalCalls.{called-only}
-
--- a refused registration
-pub refused-only : (r : Registered) (n : Numbers) (t : List ℕ) (ps : List Endpoint) (bs : List Binding) (x : Refusal) → RefusesRegistration r n x → registered_of r n t ps bs ≡ refused (joined n t ps bs) (number_of x)
-refused-only r n t ps bs x h = called-only r.called (Refused x) (writing n r.write) t ps bs h.only ∙ rw h.write
+use Rattle.link.specs.Parts.{behind_ring}
 
 -- what the numbers of an open end say of the transmit region, and of the receive region
 pub tx_sound : (n : Numbers) → open_numbers n.alignment n.tx n.rx n.write n.read ≡ true → Sound n.alignment n.tx × Sound n.alignment n.rx
@@ -52,22 +44,22 @@ tx_sound n h = let e : End = joined n [] [] [] in let o = open_says e (is_open_l
 
 -- ---- the initiator: the name, at place i
 
-module _ (n : Numbers) (t : List ℕ) (name : List ℕ) (r : Space) (h : FitAs r n.tx (table_of t 0) (length name + 1)) where
-  pub initiate_refused : (x : Refusal) → r ≡ Space.Refused x → (ps : List Endpoint) (bs : List Binding) (i : ℕ) → initiates (joined n t ps bs) name i ≡ refused (joined n t ps bs) (number_of x)
+module _ (n : Numbers) (t : List ℕ) (name : List ℕ) (r : Result Blocks Refusal) (h : FitAs r n.tx (table_of t 0) (length name + 1)) where
+  pub initiate_refused : (x : Refusal) → r ≡ Err x → (ps : List Endpoint) (bs : List Binding) (i : ℕ) → initiates (joined n t ps bs) name i ≡ refused (joined n t ps bs) (number_of x)
   unfolding initiates
   initiate_refused x q ps bs i = let w = rw q at h in w (joined n t ps bs) _
 
-  module _ (s m : ℕ) (q : r ≡ Space.At s m) where
-    pub initiate_fits : (m ≡ blocks_for n.tx.block_size (length name + 1)) × (1 ≤ m) × (s + m ≤ n.tx.block_count)
+  module _ (m : Blocks) (q : r ≡ Ok m) where
+    pub initiate_fits : (m.count ≡ blocks_for n.tx.block_size (length name + 1)) × (1 ≤ m.count) × (m.start + m.count ≤ n.tx.block_count)
     initiate_fits = let w = rw q at h in (w.0, w.3, w.4)
 
-    pub announces : (ps : List Endpoint) (bs : List Binding) (i : ℕ) → initiates (joined n t ps bs) name i ≡ announcement (joined n t ps bs) name i (unused_from 8 0 ps) s
+    pub announces : (ps : List Endpoint) (bs : List Binding) (i : ℕ) → initiates (joined n t ps bs) name i ≡ announcement (joined n t ps bs) name i (unused_from 8 0 ps) m.start
     unfolding initiates
-    announces ps bs i = let w = rw q at h in fit_at n.tx (table_of t 0) (length name + 1) m w.0 (joined n t ps bs) _ s w.1 w.2
+    announces ps bs i = let w = rw q at h in fit_at n.tx (table_of t 0) (length name + 1) m.count w.0 (joined n t ps bs) _ m.start w.1 w.2
 
     -- the end that it leaves
-    pub announced : (ps : List Endpoint) (bs : List Binding) (i a : ℕ) (t' kept : List ℕ) → a ≡ unused_from 8 0 ps → Changed t t' 0 (taken (table_of t 0) SentBinding s m a (length name + 1)) → kept ≡ padded_name name →
-        joined n t' (set ps i (record { stage = Waiting; address = a; name = kept })) bs ≡ (announcement (joined n t ps bs) name i (unused_from 8 0 ps) s).next
+    pub announced : (ps : List Endpoint) (bs : List Binding) (i a : ℕ) (t' kept : List ℕ) → a ≡ unused_from 8 0 ps → Changed t t' 0 (taken (table_of t 0) SentBinding m.start m.count a (length name + 1)) → kept ≡ padded_name name →
+        joined n t' (set ps i (record { stage = Waiting; address = a; name = kept })) bs ≡ (announcement (joined n t ps bs) name i (unused_from 8 0 ps) m.start).next
     unfolding changed
     announced ps bs i a t' kept u c k = let w = initiate_fits in rw (← w.0, c.table, c.upper 1568 (omega arith), u, k)
 
@@ -83,15 +75,15 @@ announcement-inside n k s m l o q h p =
 -- ---- the follower
 
 module _ (n : Numbers) (t : List ℕ) (bs : List Binding) (kept : List ℕ) (i : ℕ) (name : List ℕ) (ps : List Endpoint) (k : kept ≡ padded_name name) where
-  found : (q : Search) → binding_at (binding_test Holds n.rx.block_count 0 kept) bs ≡ q → binding_at (holds n.rx.block_count name) bs ≡ q
-  found q h = sym (ap (λ (m : List ℕ). binding_at (binding_test Holds n.rx.block_count 0 m) bs) k) ∙ h
+  found : (q : Search) → binding_at (holds_as n.rx.block_count kept) bs ≡ q → binding_at (holds n.rx.block_count name) bs ≡ q
+  found q h = sym (ap (λ (m : List ℕ). binding_at (holds_as n.rx.block_count m) bs) k) ∙ h
 
-  pub follow_waits : binding_at (binding_test Holds n.rx.block_count 0 kept) bs ≡ nowhere →
+  pub follow_waits : binding_at (holds_as n.rx.block_count kept) bs ≡ nowhere →
       accepted (joined n t (set ps i (record { stage = Waiting; address = 0; name = kept })) bs) nothing ≡ followed (joined n t ps bs) name i (binding_at (holds n.rx.block_count name) bs)
   unfolding changed
   follow_waits h = rw (found nowhere h, k)
 
-  pub follow_binds : (j : ℕ) (b : Binding) → binding_at (binding_test Holds n.rx.block_count 0 kept) bs ≡ found_at j → b ≡ get_or bs j no_binding →
+  pub follow_binds : (j : ℕ) (b : Binding) → binding_at (holds_as n.rx.block_count kept) bs ≡ found_at j → b ≡ get_or bs j no_binding →
       followed (joined n t ps bs) name i (binding_at (holds n.rx.block_count name) bs) ≡ bound_to_stored (joined n t ps bs) name i j b
   follow_binds j b h p = rw (found (found_at j) h, p)
 
@@ -102,10 +94,10 @@ unfolding changed
 taken_over n t bs kept i name ps j b t' k c = rw (k, c.table, c.lower 0 (omega arith))
 
 -- what a stored binding of the kept name says of its blocks, at place j; d stands beyond the bindings
-pub holds_says : (bs : List Binding) (c a : ℕ) (kept : List ℕ) (j : ℕ) (d : Binding) → binding_at (binding_test Holds c a kept) bs ≡ found_at j → j < length bs → c ≤ 256 →
+pub holds_says : (bs : List Binding) (c : ℕ) (kept : List ℕ) (j : ℕ) (d : Binding) → binding_at (holds_as c kept) bs ≡ found_at j → j < length bs → c ≤ 256 →
     (get_or bs j d ≡ get_or bs j no_binding) × ((get_or bs j d).start < 256) × ((get_or bs j d).start + (get_or bs j d).count ≤ 256)
-holds_says bs c a kept j d h l f =
-    let w = first-at (binding_test Holds c a kept) no_binding bs 8 0 j h in
+holds_says bs c kept j d h l f =
+    let w = first-at (holds_as c kept) no_binding bs 8 0 j h in
     let b : Binding = get_or bs j no_binding in
     let z = every (b.stored ∷ same b.name kept ∷ lies c b.start b.count ∷ []) w.0 in
     let y = every (ltb b.start c ∷ leb 1 b.count ∷ leb (b.start + b.count) c ∷ []) z.1.1.0 in
@@ -116,12 +108,12 @@ holds_says bs c a kept j d h l f =
 
 -- ---- register, by the place that was decided
 
-module _ (p : Place) (e : End) (l : ℕ) (n kept : List ℕ) (h : PlaceAs p e l n kept) where
-  pub place-refused : (x : Refusal) → p ≡ Place.Refused x → register_of e l n ≡ refused e (number_of x)
+module _ (p : Result Registering Refusal) (e : End) (l : ℕ) (n : List ℕ) (h : PlaceAs p e l n) where
+  pub place-refused : (x : Refusal) → p ≡ Err x → register_of e l n ≡ refused e (number_of x)
   place-refused x q = rw q at h
 
-  pub place_at : (i : ℕ) → p ≡ Place.At i → PlaceAs (Place.At i) e l n kept
-  place_at i q = rw q at h
+  pub place_at : (r : Registering) → p ≡ Ok r → PlaceAs (Ok r) e l n
+  place_at r q = rw q at h
 
 pub whole_numbers : (n : Numbers) (t : List ℕ) (ps : List Endpoint) (bs : List Binding) (l : ℕ) → whole (joined n t ps bs) n.tx l ≡ true →
     (open_numbers n.alignment n.tx n.rx n.write n.read ≡ true) × (l ≡ n.tx.length)

@@ -3,22 +3,18 @@ use Prim.Native.Nat.{ℕ}
 use mathlib.Core.Bool.{Bool, true, false}
 use mathlib.Core.Path.{◌≡◌, refl, ap, ◌∙◌}
 use mathlib.Core.List.{List, []}
+use Rattle.std.specs.Prelude.{Result}
 use lib.ListN.{length}
 use Rattle.wire.specs.Choice.{pick}
 use Rattle.wire.specs.Bytes.{wrote}
 use Rattle.wire.specs.Reads.{answer}
 use Rattle.icmsg.specs.Rules.{Outcome as RingOutcome, Answer, answer_number, index_after, refused as ringNo, accepted as ringYes, dropped as ringDropped, refusal}
 use Rattle.icmsg.specs.Laws.{PlainAt, Plain}
-use Rattle.icbmsg.specs.Outcome.{a_length, Outcome, ring_refused, without_writes}
+use Rattle.icbmsg.specs.Outcome.{Outcome, ring_refused, without_writes}
 use Rattle.icbmsg.specs.Ends.{whole, changed, with_write, with_read}
 use Rattle.icbmsg.specs.Rings.{push_outcome, pull_outcome, pushed, pulled, pull_rule}
-use Rattle.link.specs.Answers.{packet_number, packet_given, given_in, ring_answered, ring_called_of}
-use Rattle.link.specs.declared.RingCalled.{RingCalled}
-use Rattle.checks.specs.Parts.{joined}
-use Rattle.endpoints.specs.declared.Endpoint.{Endpoint}
-use Rattle.endpoints.specs.declared.Binding.{Binding}
-use Rattle.icbmsg.specs.declared.Numbers.{Numbers}
-use Rattle.link.specs.declared.PacketAnswer.{PacketAnswer}
+use Rattle.link.specs.Answers.{packet_number, packet_given, given_in, ring_answered}
+use Rattle.link.specs.declared.PacketError.{PacketError}
 use Rattle.icbmsg.proofs.RulesRead.{pull-answer}
 use Rattle.icbmsg.specs.End.{End}
 
@@ -30,7 +26,7 @@ ring_6 e w o f s h k = (rw h, rw (h, k))
 
 -- The ring's outcome o, what the code's ring has answered (x), and what the code tells of it: the answer p, and the own index i.
 module _ (o : RingOutcome) (x : Answer) (h : x ≡ o.answer)
-    (p : PacketAnswer) (number : packet_number p ≡ answer_number x) (given : packet_given p ≡ given_in x) (i : ℕ) (e : End) where
+    (p : Result ℕ PacketError) (number : packet_number p ≡ answer_number x) (given : packet_given p ≡ given_in x) (i : ℕ) (e : End) where
   -- on the transmit side
   pub push-told : Plain o → (w : Bool) → w ≡ true → i ≡ index_after e.write x →
       (ring_answered p (with_write e i) ≡ without_writes (pick w (pushed e o) (ring_refused e 6))) × (o.region ≡ (pick w (pushed e o) (ring_refused e 6)).tx)
@@ -66,8 +62,3 @@ pull_quiet e o s b h = (rw h, (rw h, rw h))
 -- a pull's rule as a plain equation on the bytes r
 pub pull_6 : (e : End) (r : List ℕ) (b : ℕ) → whole e e.rx (length r) ≡ false → answer (pull_rule e (length r) b) r ≡ ring_refused e 6
 pull_6 e r b h = pull-answer e (length r) b r ∙ rw h
-
--- what the code hands back of a refusal
-pub ring_refused_lem : (r : RingCalled) (n : Numbers) (t : List ℕ) (ps : List Endpoint) (bs : List Binding) → (packet_number r.answer ≡ 6) × (packet_given r.answer ≡ a_length 0) × (r.numbers ≡ n) →
-    ring_called_of r t ps bs ≡ ring_refused (joined n t ps bs) 6
-ring_refused_lem r n t ps bs h = rw (h.0, h.1, h.2)

@@ -1,6 +1,9 @@
 -- The end with bytes and the end with entries: each case of a step, and the induction over the calls.
 use Prim.Native.Nat.{ℕ}
 use mathlib.Core.List.{List, [], ◌∷◌}
+use Rattle.std.specs.Prelude.{Result, Ok, Err}
+use Rattle.refusal.specs.declared.Refusal.{Refusal}
+use Rattle.link.specs.declared.Place.{Place}
 use mathlib.Core.Path.{◌≡◌, refl, ap, ◌∙◌}
 use lib.ListN.{length}
 use Rattle.wire.specs.Bytes.{wrote}
@@ -14,8 +17,8 @@ use Rattle.icbmsg.specs.Registering.{register_rule}
 use Rattle.icbmsg.specs.Calls.{Call, lent, read_from, rule, step, run}
 use Rattle.icbmsg.specs.declared.Numbers.{Numbers}
 use Rattle.checks.specs.Parts.{joined}
-use Rattle.link.specs.Answers.{answered, pushed_of, called_of, registered_of, ring_called_of, place_of}
-use Rattle.link.specs.SameEnds.{Bytes, stands_for, Seen, Step, starts, pushes, pulls, reserves, rooms, sends, drops, arrives, views, ends, registers, asks_room, asks_view, Steps, SameAt, AllSame, SameEnds}
+use Rattle.link.specs.Answers.{answered, writing, ring_answered, place_of}
+use Rattle.link.specs.SameEnds.{Bytes, with, stands_for, Seen, told_at, Step, starts, pushes, pulls, reserves, rooms, sends, drops, arrives, views, ends, registers, asks_room, asks_view, Steps, SameAt, AllSame, SameEnds}
 use Rattle.link.specs.SameEnds as ends_of
 
 -- where no byte is lent, none is written
@@ -27,6 +30,12 @@ none_lent (w ∷ ws) = none_lent ws
 -- a call that writes nothing: the rule's outcome o is what the code told
 told_same : (c : Call) (x : Seen) (z o : Outcome) → z ≡ o → SameAt c x z → SameAt c x o
 told_same c x z o h s = rw (← h) s
+
+-- a place, which writes nothing and leaves the end
+place_same : (c : Call) (p : Result Place Refusal) (b : Bytes) → SameAt c (told_at p (lent c) b) (place_of p (stands_for b))
+unfolding wrote
+place_same c (Ok y) b = record { number = refl; given = refl; begin = refl; size = refl; tx = refl; rx = refl; buffer = refl; next = refl }
+place_same c (Err y) b = record { number = refl; given = refl; begin = refl; size = refl; tx = refl; rx = refl; buffer = refl; next = refl }
 
 -- a call whose writes its contract gives for each slice
 written_same : (c : Call) (x : Seen) (z o : Outcome) → z ≡ without_writes o → x.number ≡ z.number → x.given ≡ z.given → x.begin ≡ z.begin → x.size ≡ z.size → stands_for x.next ≡ z.next →
@@ -46,29 +55,29 @@ written_same c x z o h p q r s u v w y =
 module _ (n : Numbers) (t : List ℕ) (ps : List Endpoint) (bs : List Binding) where
   pub step_same : (c : Call) (x : Seen) → Step n t ps bs c x → SameAt c x (step (joined n t ps bs) c)
   unfolding step rule read_from lent wrote
-  step_same c x (starts r tx tx' h w) =
+  step_same c x (starts r n' tx tx' h w) =
       let o : Outcome = start_of (joined n t ps bs) (length tx) in
-      written_same c x (ring_called_of r t ps bs) o (h t ps bs) refl refl refl refl refl (w t ps bs) (none_lent o.rx) (none_lent o.buffer)
-  step_same c x (pushes r tx tx' m h w) =
+      written_same c x (ring_answered r (joined n' t ps bs)) o (h t ps bs) refl refl refl refl refl (w t ps bs) (none_lent o.rx) (none_lent o.buffer)
+  step_same c x (pushes r n' tx tx' m h w) =
       let o : Outcome = answer (push_rule (joined n t ps bs) (length tx) m) tx in
-      written_same c x (ring_called_of r t ps bs) o (h t ps bs) refl refl refl refl refl (w t ps bs) (none_lent o.rx) (none_lent o.buffer)
-  step_same c x (pulls r rx rx' b b' h w v) =
+      written_same c x (ring_answered r (joined n' t ps bs)) o (h t ps bs) refl refl refl refl refl (w t ps bs) (none_lent o.rx) (none_lent o.buffer)
+  step_same c x (pulls r n' rx rx' b b' h w v) =
       let o : Outcome = answer (pull_rule (joined n t ps bs) (length rx) (length b)) rx in
-      written_same c x (ring_called_of r t ps bs) o (h t ps bs) refl refl refl refl refl (none_lent o.tx) (w t ps bs) (v t ps bs)
+      written_same c x (ring_answered r (joined n' t ps bs)) o (h t ps bs) refl refl refl refl refl (none_lent o.tx) (w t ps bs) (v t ps bs)
   step_same c x (reserves r t' k h) = told_same c x (answered r (joined n t' ps bs)) _ (h ps bs) (record { number = refl; given = refl; begin = refl; size = refl; tx = refl; rx = refl; buffer = refl; next = refl })
-  step_same c x (rooms p tx s h) = told_same c x (place_of p (joined n t ps bs)) _ (h ps bs) (record { number = refl; given = refl; begin = refl; size = refl; tx = refl; rx = refl; buffer = refl; next = refl })
-  step_same c x (sends r t' tx tx' s a k h w) =
+  step_same c x (rooms p tx s h) = told_same c x (place_of p (joined n t ps bs)) _ (h ps bs) (place_same c p (with n t ps bs))
+  step_same c x (sends r i t' tx tx' s a k h w) =
       let o : Outcome = answer (send_rule (joined n t ps bs) (length tx) s a k) tx in
-      written_same c x (pushed_of r n t' ps bs) o (h bs) refl refl refl refl refl (w bs) (none_lent o.rx) (none_lent o.buffer)
+      written_same c x (answered r (joined (writing n i) t' ps bs)) o (h bs) refl refl refl refl refl (w bs) (none_lent o.rx) (none_lent o.buffer)
   step_same c x (drops r t' s h) = told_same c x (answered r (joined n t' ps bs)) _ (h ps bs) (record { number = refl; given = refl; begin = refl; size = refl; tx = refl; rx = refl; buffer = refl; next = refl })
-  step_same c x (arrives r t' rx m h) = told_same c x (called_of r n t' ps bs) _ h (record { number = refl; given = refl; begin = refl; size = refl; tx = refl; rx = refl; buffer = refl; next = refl })
-  step_same c x (views p rx s h) = told_same c x (place_of p (joined n t ps bs)) _ (h ps bs) (record { number = refl; given = refl; begin = refl; size = refl; tx = refl; rx = refl; buffer = refl; next = refl })
-  step_same c x (ends r t' tx tx' s h w) =
+  step_same c x (arrives r b rx m h) = told_same c x (answered r (stands_for b)) _ h (record { number = refl; given = refl; begin = refl; size = refl; tx = refl; rx = refl; buffer = refl; next = refl })
+  step_same c x (views p rx s h) = told_same c x (place_of p (joined n t ps bs)) _ (h ps bs) (place_same c p (with n t ps bs))
+  step_same c x (ends r i t' tx tx' s h w) =
       let o : Outcome = answer (done_rule (joined n t ps bs) (length tx) s) tx in
-      written_same c x (pushed_of r n t' ps bs) o (h ps bs) refl refl refl refl refl (w ps bs) (none_lent o.rx) (none_lent o.buffer)
-  step_same c x (registers r t' tx tx' m h w) =
+      written_same c x (answered r (joined (writing n i) t' ps bs)) o (h ps bs) refl refl refl refl refl (w ps bs) (none_lent o.rx) (none_lent o.buffer)
+  step_same c x (registers r b tx tx' m h w) =
       let o : Outcome = answer (register_rule (joined n t ps bs) (length tx) m) tx in
-      written_same c x (registered_of r n t' ps bs) o h refl refl refl refl refl w (none_lent o.rx) (none_lent o.buffer)
+      written_same c x (answered r (stands_for b)) o h refl refl refl refl refl w (none_lent o.rx) (none_lent o.buffer)
   step_same c x (asks_room r s l h) = told_same c x (answered r (joined n t ps bs)) _ (h ps bs) (record { number = refl; given = refl; begin = refl; size = refl; tx = refl; rx = refl; buffer = refl; next = refl })
   step_same c x (asks_view r s l h) = told_same c x (answered r (joined n t ps bs)) _ (h ps bs) (record { number = refl; given = refl; begin = refl; size = refl; tx = refl; rx = refl; buffer = refl; next = refl })
 

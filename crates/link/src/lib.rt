@@ -1,7 +1,6 @@
-// One end of the link, as code: its state in four parts, and its calls by family: openings, rings, messages, arrivals, registrations. A call is
-// an associated function on the parts that it needs. The tables are changed in place; what else changes is handed back. A refused call
-// changes nothing, but that a pull drops what is unread at a broken packet. Send, done and register push their control message themselves, all or
-// nothing.
+// One end of the link, as code: its state, and its calls by family: openings, rings, messages, arrivals, registrations, turns. A call changes the
+// end in place. A refused call changes nothing, but that a pull drops what is unread at a broken packet. Send, done and register push their
+// control message themselves, all or nothing.
 #![tactic(auto)]
 
 mod announcements;
@@ -12,11 +11,7 @@ mod registrations;
 mod rings;
 mod turns;
 
-ghost use Rattle.std.specs.Prelude.{◌≡◌};
-ghost use Rattle.link.specs.Answers.{applied as appliedTo, registered_to};
-ghost use Rattle.link.specs.Turns.{turned_to};
-
-use endpoints::{Binding, BindingChange, Endpoint, EndpointChange};
+use endpoints::{Binding, Endpoint};
 use icbmsg::Numbers;
 use refusal::Refusal;
 
@@ -48,100 +43,40 @@ impl End {
     pub const TABLES: usize = tables::BYTES;
 }
 
-// What a call answers.
+// What an accepted call answers.
 #[derive(Clone, Copy)]
 pub enum Answer {
-    // Accepted, with nothing more to say.
+    // Nothing more to say.
     Accepted,
     // A reservation: its first block, and how many.
     Run { start: u32, count: u32 },
-    // A control message, its three bytes: pushed already by send, register and done; of an arrival it is for the caller to push.
+    // A control message, its three bytes as they go on the ring: pushed already by send, register and done; of an arrival it is for the caller to
+    // push.
     Control { kind: u8, address: u8, block: u8 },
     // A data message that has arrived: its endpoint's address, its first block and its length.
     Delivered { address: u8, block: u8, length: u32 },
-    Refused(Refusal),
 }
 
-// What a ring call answers: the length of the packet's content, or of a broken packet (9) how many unread bytes were dropped. The own index is
-// among the numbers.
+// Why a ring call gives no packet: it is refused and nothing changes; or the packet is broken (9), and so many unread bytes were dropped. The
+// ring's own error has its index besides, which here is among the end's numbers.
 #[derive(Clone, Copy)]
-pub enum PacketAnswer {
-    Length(u32),
-    Dropped(u32),
+pub enum PacketError {
     Refused(Refusal),
+    Dropped(u32),
 }
 
-// Where a room or view lies in the slice that is lent: its first byte, and how many. None on a refusal.
+// Where a room or view lies in the slice that is lent: its first byte, and how many.
 #[derive(Clone, Copy)]
 pub struct Place {
-    pub answer: Answer,
     pub begin: u32,
     pub size: u32,
 }
 
-// What an opening answers, and the end that it makes.
+// What an opening answers, and the end that it makes: the rules have one of a refused opening too, which is closed.
 #[derive(Clone, Copy)]
 pub struct Opened {
-    pub answer: Answer,
+    pub answer: Result<Answer, Refusal>,
     pub end: End,
-}
-
-// What a ring call answers, and the end's numbers afterwards.
-#[derive(Clone, Copy)]
-pub struct RingCalled {
-    pub answer: PacketAnswer,
-    pub numbers: Numbers,
-}
-
-// What send and done answer, and the own write index afterwards.
-#[derive(Clone, Copy)]
-pub struct Pushed {
-    pub answer: Answer,
-    pub write: u32,
-}
-
-// What an arrival or a registration answers, and what it changes of the endpoints and the stored bindings.
-#[derive(Clone, Copy)]
-pub struct Called {
-    pub answer: Answer,
-    pub endpoint: EndpointChange,
-    pub binding: BindingChange,
-}
-
-impl Called {
-    // The end after the call, whose tables are changed already: with the endpoint and the stored binding that are handed back.
-    pub fn applied(self, mut end: End) -> End
-        ensures { result ≡ appliedTo self end }
-    {
-        let endpoint = self.endpoint;
-        let endpoints = end.endpoints;
-        let endpoints = endpoint.applied(endpoints);
-        end.endpoints = endpoints;
-        let binding = self.binding;
-        let bindings = end.bindings;
-        let bindings = binding.applied(bindings);
-        end.bindings = bindings;
-        end
-    }
-}
-
-// What a registration answers and changes, and the own write index afterwards.
-#[derive(Clone, Copy)]
-pub struct Registered {
-    pub called: Called,
-    pub write: u32,
-}
-
-impl Registered {
-    // The end after the call, as of an arrival, with its own write index.
-    pub fn applied(self, end: End) -> End
-        ensures { result ≡ registered_to self end }
-    {
-        let called = self.called;
-        let mut end = called.applied(end);
-        end.numbers.write = self.write;
-        end
-    }
 }
 
 // Why a turn stopped.
@@ -159,27 +94,9 @@ pub enum Stop {
     Reply { kind: u8, address: u8, block: u8 },
 }
 
-// What a turn answers, how many packets it took and why it stopped; and what it leaves beside the tables: the own read index, the endpoints and the
-// stored bindings.
+// What a turn answers: how many packets it took, and why it stopped.
 #[derive(Clone, Copy)]
 pub struct Turned {
     pub taken: u32,
     pub stop: Stop,
-    pub read: u32,
-    pub endpoints: [Endpoint; End::ENDPOINTS],
-    pub bindings: [Binding; End::BINDINGS],
-}
-
-impl Turned {
-    // The end after the turn, whose tables are changed already.
-    pub fn applied(self, mut end: End) -> End
-        ensures { result ≡ turned_to self end }
-    {
-        end.numbers.read = self.read;
-        let endpoints = self.endpoints;
-        end.endpoints = endpoints;
-        let stored = self.bindings;
-        end.bindings = stored;
-        end
-    }
 }

@@ -2,24 +2,17 @@
 use Prim.Native.Nat.{ℕ, suc, ◌+◌, ◌≤◌, ◌<◌, min}
 use mathlib.Core.Bool.{Bool, true, false}
 use mathlib.Core.Path.{◌≡◌, refl, ap, subst, ◌∙◌}
-use mathlib.Core.List.{List, [], ◌∷◌}
+use mathlib.Core.List.{List}
 use native.Mathlib.Nat.{zero-add, min-eq_left, min-eq_right}
 use native.Mathlib.Omega.{arith}
 use native.Mathlib.Numerals.{add-one}
 use lib.Dec.{leb}
 use borrow.Author.Tests.{leb-true, leb-false}
-use lib.ListN.{length, get_or, set, replicate}
+use lib.ListN.{length, get_or, set}
 use lib.Seq.{set_out}
 use Rattle.wire.specs.Bytes.{straight, bytes, writes, wrote}
 use Rattle.wire.proofs.Positions.{length-wrote, bytes_that_fit, copy_step}
-use Rattle.refusal.specs.Numbers.{number_of}
-use Rattle.refusal.specs.declared.Refusal.{Refusal}
-use Rattle.region.specs.Layout.{Outcome, outcome_of}
-use Rattle.region.specs.declared.RegionLayout.{RegionLayout}
-use Rattle.region.specs.declared.LayoutAnswer.{LayoutAnswer}
-use Rattle.region.specs.declared.LayoutAnswer.TheVariants.{Accepted, Refused}
-use Rattle.icmsg.specs.Rules.{Answer, length_in, dropped_in, index_after}
-use Rattle.panel.specs.Answers.{answered, layout_numbers, ring_numbers}
+use Rattle.panel.specs.Answers.{answered}
 
 -- s after the first i of the numbers
 abbrev pub after_first : List ℕ → List ℕ → ℕ → List ℕ
@@ -57,18 +50,3 @@ pub all_that_fit : (s numbers : List ℕ) (i : ℕ) → i ≡ min (length s) (le
 unfolding answered
 all_that_fit s numbers i e =
     ap (after_first s numbers) e ∙ ap (λ (l : List ℕ). wrote s (writes (straight 0) l)) (bytes_that_fit numbers (length s))
-
--- each way out of the exported layout: t is the caller's answer s afterwards
-module _ (a : LayoutAnswer) (o : Outcome) (s t : List ℕ) (h : outcome_of a ≡ o) where
-  pub accepted-layout : (y : RegionLayout) → a ≡ Accepted y → t ≡ answered s (y.begin ∷ y.data_length ∷ y.blocks_begin ∷ y.block_size ∷ y.end ∷ []) →
-      (0 ≡ o.number) × (t ≡ answered s (layout_numbers o))
-  accepted-layout y e q = rw (← h, e) (refl, q)
-
-  pub refused-layout : (x : Refusal) (n : ℕ) → a ≡ Refused x → n ≡ number_of x → t ≡ answered s (replicate 5 0) →
-      (n ≡ o.number) × (t ≡ answered s (layout_numbers o))
-  refused-layout x n e k q = rw (← h, e) (k, q)
-
--- and of a ring call: the answer's three numbers, as the code has them
-pub ring_given : (a : Answer) (own : ℕ) (s t : List ℕ) (k i n : ℕ) → k ≡ length_in a → i ≡ index_after own a → n ≡ dropped_in a → t ≡ answered s (k ∷ i ∷ n ∷ []) →
-    t ≡ answered s (ring_numbers own a)
-ring_given a own s t k i n p q r h = rw (← p, ← q, ← r) h

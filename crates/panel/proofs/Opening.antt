@@ -1,4 +1,5 @@
 -- The ring of a region that is lent whole, and calls on it.
+use Rattle.std.specs.Prelude.{Result, Ok, Err}
 use Prim.Native.Nat.{ℕ, ◌-◌, ◌≤◌, ◌<◌, min}
 use mathlib.Core.Bool.{Bool, true, false}
 use mathlib.Core.Path.{◌≡◌, refl, sym}
@@ -15,8 +16,6 @@ use Rattle.refusal.specs.declared.Refusal.{Refusal}
 use Rattle.refusal.proofs.Positive.{number_positive}
 use Rattle.region.specs.Layout.{outcome_of, layout, plain}
 use Rattle.region.specs.declared.RegionLayout.{RegionLayout}
-use Rattle.region.specs.declared.LayoutAnswer.{LayoutAnswer}
-use Rattle.region.specs.declared.LayoutAnswer.TheVariants.{Accepted, Refused}
 use Rattle.region.proofs.AcceptedLayouts.{accepted_layouts_lie_inside}
 use Rattle.region.proofs.PlainLayouts.{accepted_plain}
 use Rattle.icmsg.specs.Ring.{read_index_at, index_at, is_sound}
@@ -26,10 +25,7 @@ use Rattle.icmsg.proofs.Checks.{too_long as cannot-fit}
 use Rattle.unit.specs.Opening.{Opened as Opened-unit}
 use Rattle.unit.specs.Answers.{opened_number as unitNumber, opened_of}
 use Rattle.unit.specs.declared.Opened.{Opened as UnitOpened}
-use Rattle.unit.specs.declared.OpenAnswer.{OpenAnswer}
 use Rattle.panel.specs.Calls.{open_number, ring_in, LiesIn, opened_number, OpensRing, on_ring}
-use Rattle.panel.specs.declared.Opened.{Opened}
-use Rattle.panel.specs.declared.Opened.TheVariants.{Whole}
 
 -- ---- a layout that is accepted lies in its region
 
@@ -41,12 +37,12 @@ plain-lies b e k h = let y = accepted_plain b e k h in (y.in_rule.bounds, y.begi
 
 -- ---- the ring, by what the code's layout answered
 
-module _ (a : LayoutAnswer) (b e : ℕ) where
-  pub layout-refused : (n : ℕ) (x : Refusal) → a ≡ Refused x → number_of x ≡ open_number (outcome_of a) b e n
+module _ (a : Result RegionLayout Refusal) (b e : ℕ) where
+  pub layout-refused : (n : ℕ) (x : Refusal) → a ≡ Err x → number_of x ≡ open_number (outcome_of a) b e n
   unfolding open_number
   layout-refused n x q = rw q (sym (passed-refused (number_of x) (check (eqb n (e - b)) 6 0) (λ m. m) (number_positive x)))
 
-  module _ (y : RegionLayout) (q : a ≡ Accepted y) where
+  module _ (y : RegionLayout) (q : a ≡ Ok y) where
     pub lies-there : LiesIn b e (outcome_of a) → (b < e) × (b ≤ y.begin)
     lies-there h = (rw q at h) refl
 
@@ -63,9 +59,9 @@ module _ (a : LayoutAnswer) (b e : ℕ) where
 
 -- ---- a call on it
 
-pub call_is : (a : Opened) (m : ℕ) (g : Ring) (f : Ring → Outcome) → opened_number a ≡ m → OpensRing a g → on_ring a f ≡ passed m (f g) refusal
-call_is (Whole r) m g f h e = rw (← h, e)
-call_is (Opened.Refused x) m g f h e = rw (← h) (sym (passed-refused (number_of x) (f g) refusal (number_positive x)))
+pub call_is : (a : Result Ring Refusal) (m : ℕ) (g : Ring) (f : Ring → Outcome) → opened_number a ≡ m → OpensRing a g → on_ring a f ≡ passed m (f g) refusal
+call_is (Ok r) m g f h e = rw (← h, e)
+call_is (Err x) m g f h e = rw (← h) (sym (passed-refused (number_of x) (f g) refusal (number_positive x)))
 
 -- ---- a content that is too long is so by its first 65,536 bytes
 
@@ -97,5 +93,5 @@ long_enough s g w c k e = go (leb (length c) 65536) refl
 
 -- ---- the number of a unit's opening
 
-pub unit-number : (r : UnitOpened) (o : Opened-unit) → opened_of r ≡ o → (a : OpenAnswer) → r.answer ≡ a → unitNumber a ≡ o.number
+pub unit-number : (r : UnitOpened) (o : Opened-unit) → opened_of r ≡ o → (a : Result (Unit {0}) Refusal) → r.answer ≡ a → unitNumber a ≡ o.number
 unit-number r o h a e = rw (← h, ← e)

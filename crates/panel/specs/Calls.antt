@@ -1,13 +1,12 @@
 -- Ring calls on the numbers that a region is opened with (docs/RULES.md, C2, C6): the checks of its layout, then 6, then the ring's own.
-use Rattle.std.specs.Prelude.{ℕ, ◌-◌, ◌≤◌, ◌<◌, List, ◌≡◌, eqb, length}
+use Rattle.std.specs.Prelude.{ℕ, ◌-◌, ◌≤◌, ◌<◌, Result, Ok, Err, List, ◌≡◌, eqb, length}
 use Rattle.wire.specs.Choice.{check, passed}
 use Rattle.wire.specs.Reads.{answer}
 use Rattle.refusal.specs.Numbers.{number_of}
+use Rattle.refusal.specs.declared.Refusal.{Refusal}
 use Rattle.region.specs.Layout.{Outcome as Layout}
 use Rattle.icmsg.specs.Rules.{Outcome, refusal, start_rule, push_rule, pull_rule, receive_rule}
 use Rattle.icmsg.specs.declared.Ring.{Ring}
-use Rattle.panel.specs.declared.Opened.{Opened}
-use Rattle.panel.specs.declared.Opened.TheVariants.{Whole, Refused}
 
 -- a slice of n bytes for the region from begin to end, whose layout is y
 unfoldable pub open_number : Layout → ℕ → ℕ → ℕ → ℕ
@@ -36,15 +35,15 @@ abbrev pub LiesIn : ℕ → ℕ → Layout → Type 0
 LiesIn begin end y = y.number ≡ 0 → (begin < end) × (begin ≤ y.begin)
 
 -- what the code's opening says: the number, and the ring where it is 0
-abbrev pub opened_number : Opened → ℕ
-opened_number (Whole g) = 0
-opened_number (Refused x) = number_of x
+abbrev pub opened_number : Result Ring Refusal → ℕ
+opened_number (Ok g) = 0
+opened_number (Err x) = number_of x
 
-abbrev pub OpensRing : Opened → Ring → Type 0
-OpensRing (Whole g) h = g ≡ h
-OpensRing (Refused x) h = Unit {0}
+abbrev pub OpensRing : Result Ring Refusal → Ring → Type 0
+OpensRing (Ok g) h = g ≡ h
+OpensRing (Err x) h = Unit {0}
 
 -- a call on the ring, where it is there
-abbrev pub on_ring : Opened → (Ring → Outcome) → Outcome
-on_ring (Whole g) f = f g
-on_ring (Refused x) f = refusal (number_of x)
+abbrev pub on_ring : Result Ring Refusal → (Ring → Outcome) → Outcome
+on_ring (Ok g) f = f g
+on_ring (Err x) f = refusal (number_of x)

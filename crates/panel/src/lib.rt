@@ -13,18 +13,11 @@ ghost use Rattle.panel.specs.Answers.{answered, layout_numbers, ring_numbers, pi
 ghost use Rattle.panel.specs.Calls.{open_number, ring_in, start_call, push_call, pull_call, receive_call, LiesIn, opened_number, OpensRing, on_ring};
 ghost use Rattle.unit.specs.Opening.{opening};
 
-use icmsg::{Ring, RingAnswer};
+use icmsg::{Packet, Ring, RingError};
 use refusal::Refusal;
-use region::LayoutAnswer;
+use region::RegionLayout;
 use sheet::Picked;
-use unit::{Bounds, OpenAnswer, Opening, Unit};
-
-// The ring of a region that is lent whole, or why there is none.
-#[derive(Clone, Copy)]
-enum Opened {
-    Whole(Ring),
-    Refused(Refusal),
-}
+use unit::{Bounds, Opening, Unit};
 
 // Puts v at position i of the caller's answer, where it has one.
 fn put_at(answer: &mut [u32], i: usize, v: u32)
@@ -36,14 +29,12 @@ fn put_at(answer: &mut [u32], i: usize, v: u32)
 }
 
 // Puts as many of the numbers as fit into the caller's answer. How many there are is known to the compiler, and it makes a store of each
-// turn; how many fit is not, and a loop over those would be a call of memcpy.
+// turn; how many fit is not, and a loop over those, as over a zip of the two, would be a call of memcpy.
 fn put_numbers(answer: &mut [u32], numbers: &[u32])
     ensures { answer.new ≡ answered answer.old numbers.now }
 {
-    let mut i = 0;
-    while i < numbers.len() {
-        put_at(answer, i, numbers[i]);
-        i += 1;
+    for (i, number) in numbers.iter().enumerate() {
+        put_at(answer, i, *number);
     }
 }
 
@@ -61,12 +52,12 @@ pub extern "C" fn petrelknob_layout(
     ensures values { answer.new ≡ answered answer.old (layout_numbers (layout begin end local remote alignment)) }
 {
     match region::layout(begin, end, local, remote, alignment) {
-        LayoutAnswer::Accepted(y) => {
+        Ok(y) => {
             let numbers = [y.begin, y.data_length, y.blocks_begin, y.block_size, y.end];
             put_numbers(answer, &numbers);
             0
         }
-        LayoutAnswer::Refused(x) => {
+        Err(x) => {
             let numbers = [0u32; 5];
             put_numbers(answer, &numbers);
             x.number()
@@ -75,37 +66,52 @@ pub extern "C" fn petrelknob_layout(
 }
 
 // The ring in a slice of n bytes that is lent for the region, which is laid out so.
-fn open_ring(layout: LayoutAnswer, begin: u32, end: u32, alignment: u32, n: usize) -> Opened
+fn open_ring(
+    layout: Result<RegionLayout, Refusal>,
+    begin: u32,
+    end: u32,
+    alignment: u32,
+    n: usize,
+) -> Result<Ring, Refusal>
     requires { LiesIn begin end (layout_of layout) }
     ensures number { opened_number result ≡ open_number (layout_of layout) begin end n }
     ensures ring { OpensRing result (ring_in (layout_of layout) begin alignment) }
 {
-    match layout {
-        LayoutAnswer::Refused(x) => Opened::Refused(x),
-        LayoutAnswer::Accepted(y) => {
-            if n == (end - begin) as usize {
-                Opened::Whole(Ring {
-                    offset: y.begin - begin,
-                    alignment: alignment,
-                    data_length: y.data_length,
-                })
-            } else {
-                Opened::Refused(Refusal::WrongRegion)
-            }
+    let y = layout?;
+    if n != (end - begin) as usize {
+        return Err(Refusal::WrongRegion);
+    }
+    Ok(Ring {
+        offset: y.begin - begin,
+        alignment,
+        data_length: y.data_length,
+    })
+}
+
+// Puts a ring call's length, own index and dropped bytes into the caller's answer, and gives its number. Each case stores its own numbers:
+// where the cases join first, the compiler tests them again behind that, and a call takes some 20 instructions more.
+fn give(answer: &mut [u32], own: u32, a: Result<Packet, RingError>) -> u32
+    ensures number { result ≡ answer_number (answer_of a) }
+    ensures numbers { answer.new ≡ answered answer.old (ring_numbers own (answer_of a)) }
+{
+    match a {
+        Ok(packet) => {
+            put_numbers(answer, &[packet.length, packet.index, 0]);
+            0
+        }
+        Err(RingError::Dropped { bytes, index }) => {
+            put_numbers(answer, &[0, index, bytes]);
+            Refusal::BrokenPacket.number()
+        }
+        Err(RingError::Refused(x)) => {
+            put_numbers(answer, &[0, own, 0]);
+            x.number()
         }
     }
 }
 
-// Puts a ring call's length, own index and dropped bytes into the caller's answer, and gives its number.
-fn give(answer: &mut [u32], own: u32, a: RingAnswer) -> u32
-    ensures number { result ≡ answer_number (answer_of a) }
-    ensures numbers { answer.new ≡ answered answer.old (ring_numbers own (answer_of a)) }
-{
-    let number = a.number();
-    let numbers = [a.length(), a.index_after(own), a.dropped()];
-    put_numbers(answer, &numbers);
-    number
-}
+// There is no own index before a start.
+const NO_INDEX: u32 = 0;
 
 // So many bytes of a content tell that it is too long. A push looks at no more of them, for the sake of speed: else the compiler copies
 // pointer and length, which a caller in C has just put on the stack one by one, as one value, and the processor waits for both.
@@ -113,75 +119,55 @@ const ENOUGH: usize = 65_536;
 
 // ---- calls on the ring that was opened
 
-// There is no own index before a start.
-fn start_on(opened: Opened, region: &mut [u8], answer: &mut [u32]) -> u32
-    ensures number { result ≡ answer_number (on_ring opened (λ g. start_rule (length region.old) g)).answer }
+// Four functions with bodies of two lines: one for all would take the call as a parameter, and require of it all that the call ensures.
+
+fn start_on(opened: Result<Ring, Refusal>, region: &mut [u8]) -> Result<Packet, RingError>
+    ensures answer { answer_of result ≡ (on_ring opened (λ g. start_rule (length region.old) g)).answer }
     ensures region { region.new ≡ wrote region.old (on_ring opened (λ g. start_rule (length region.old) g)).region }
-    ensures numbers { answer.new ≡ answered answer.old (ring_numbers 0 (on_ring opened (λ g. start_rule (length region.old) g)).answer) }
 {
-    match opened {
-        Opened::Refused(x) => give(answer, 0, RingAnswer::Refused(x)),
-        Opened::Whole(ring) => {
-            let a = icmsg::start(region, ring);
-            give(answer, 0, a)
-        }
-    }
+    let ring = opened?;
+    icmsg::start(region, ring)
 }
 
-fn push_on(opened: Opened, own: u32, region: &mut [u8], content: &[u8], answer: &mut [u32]) -> u32
-    ensures number { result ≡ answer_number (on_ring opened (λ g. push_rule region.old g own content.now)).answer }
+fn push_on(
+    opened: Result<Ring, Refusal>,
+    own: u32,
+    region: &mut [u8],
+    content: &[u8],
+) -> Result<Packet, RingError>
+    ensures answer { answer_of result ≡ (on_ring opened (λ g. push_rule region.old g own content.now)).answer }
     ensures region { region.new ≡ wrote region.old (on_ring opened (λ g. push_rule region.old g own content.now)).region }
-    ensures numbers { answer.new ≡ answered answer.old (ring_numbers own (on_ring opened (λ g. push_rule region.old g own content.now)).answer) }
 {
-    match opened {
-        Opened::Refused(x) => give(answer, own, RingAnswer::Refused(x)),
-        Opened::Whole(ring) => {
-            let a = icmsg::push(region, ring, own, content);
-            give(answer, own, a)
-        }
-    }
+    let ring = opened?;
+    icmsg::push(region, ring, own, content)
 }
 
 fn pull_on(
-    opened: Opened,
+    opened: Result<Ring, Refusal>,
     own: u32,
     region: &mut [u8],
     buffer: &mut [u8],
-    answer: &mut [u32],
-) -> u32
-    ensures number { result ≡ answer_number (on_ring opened (λ g. read (pull_rule (length region.old) g own (length buffer.old)) region.old)).answer }
+) -> Result<Packet, RingError>
+    ensures answer { answer_of result ≡ (on_ring opened (λ g. read (pull_rule (length region.old) g own (length buffer.old)) region.old)).answer }
     ensures region { region.new ≡ wrote region.old (on_ring opened (λ g. read (pull_rule (length region.old) g own (length buffer.old)) region.old)).region }
     ensures buffer { buffer.new ≡ wrote buffer.old (on_ring opened (λ g. read (pull_rule (length region.old) g own (length buffer.old)) region.old)).buffer }
-    ensures numbers { answer.new ≡ answered answer.old (ring_numbers own (on_ring opened (λ g. read (pull_rule (length region.old) g own (length buffer.old)) region.old)).answer) }
 {
-    match opened {
-        Opened::Refused(x) => give(answer, own, RingAnswer::Refused(x)),
-        Opened::Whole(ring) => {
-            let a = icmsg::pull(region, ring, own, buffer);
-            give(answer, own, a)
-        }
-    }
+    let ring = opened?;
+    icmsg::pull(region, ring, own, buffer)
 }
 
 fn receive_on(
-    opened: Opened,
+    opened: Result<Ring, Refusal>,
     own: u32,
     region: &mut [u8],
     buffer: &mut [u8],
-    answer: &mut [u32],
-) -> u32
-    ensures number { result ≡ answer_number (on_ring opened (λ g. read (receive_rule (length region.old) g own (length buffer.old)) region.old)).answer }
+) -> Result<Packet, RingError>
+    ensures answer { answer_of result ≡ (on_ring opened (λ g. read (receive_rule (length region.old) g own (length buffer.old)) region.old)).answer }
     ensures region { region.new ≡ wrote region.old (on_ring opened (λ g. read (receive_rule (length region.old) g own (length buffer.old)) region.old)).region }
     ensures buffer { buffer.new ≡ wrote buffer.old (on_ring opened (λ g. read (receive_rule (length region.old) g own (length buffer.old)) region.old)).buffer }
-    ensures numbers { answer.new ≡ answered answer.old (ring_numbers own (on_ring opened (λ g. read (receive_rule (length region.old) g own (length buffer.old)) region.old)).answer) }
 {
-    match opened {
-        Opened::Refused(x) => give(answer, own, RingAnswer::Refused(x)),
-        Opened::Whole(ring) => {
-            let a = icmsg::receive(region, ring, own, buffer);
-            give(answer, own, a)
-        }
-    }
+    let ring = opened?;
+    icmsg::receive(region, ring, own, buffer)
 }
 
 // ---- of an end's region
@@ -203,7 +189,8 @@ pub extern "C" fn petrelknob_start(
 {
     let y = region::layout(begin, end, local, remote, alignment);
     let opened = open_ring(y, begin, end, alignment, region.len());
-    start_on(opened, region, answer)
+    let a = start_on(opened, region);
+    give(answer, NO_INDEX, a)
 }
 
 // 1 where content is exactly the start content, else 0.
@@ -233,8 +220,9 @@ pub extern "C" fn petrelknob_push(
 {
     let y = region::layout(begin, end, local, remote, alignment);
     let opened = open_ring(y, begin, end, alignment, region.len());
-    let k = wire::least(content.len(), ENOUGH);
-    push_on(opened, own, region, &content[..k], answer)
+    let k = content.len().min(ENOUGH);
+    let a = push_on(opened, own, region, &content[..k]);
+    give(answer, own, a)
 }
 
 // Takes the next packet off the region's ring, at the own read index.
@@ -257,7 +245,8 @@ pub extern "C" fn petrelknob_pull(
 {
     let y = region::layout(begin, end, local, remote, alignment);
     let opened = open_ring(y, begin, end, alignment, region.len());
-    pull_on(opened, own, region, buffer, answer)
+    let a = pull_on(opened, own, region, buffer);
+    give(answer, own, a)
 }
 
 // ---- of a plain unit
@@ -274,7 +263,7 @@ pub extern "C" fn petrelknob_unit_open(
     ensures { result ≡ (opening (record { alignment = alignment; tx = record { begin = tx_begin; end = tx_end }; rx = record { begin = rx_begin; end = rx_end } })).number }
 {
     let opened = Unit::open(Opening {
-        alignment: alignment,
+        alignment,
         tx: Bounds {
             begin: tx_begin,
             end: tx_end,
@@ -286,8 +275,8 @@ pub extern "C" fn petrelknob_unit_open(
     });
     let answer = opened.answer;
     match answer {
-        OpenAnswer::Accepted => 0,
-        OpenAnswer::Refused(x) => x.number(),
+        Ok(()) => 0,
+        Err(x) => x.number(),
     }
 }
 
@@ -306,7 +295,8 @@ pub extern "C" fn petrelknob_unit_start(
 {
     let y = region::plain(begin, end, alignment);
     let opened = open_ring(y, begin, end, alignment, region.len());
-    start_on(opened, region, answer)
+    let a = start_on(opened, region);
+    give(answer, NO_INDEX, a)
 }
 
 // Puts a packet with the content on the region's ring, at the own write index.
@@ -326,8 +316,9 @@ pub extern "C" fn petrelknob_unit_push(
 {
     let y = region::plain(begin, end, alignment);
     let opened = open_ring(y, begin, end, alignment, region.len());
-    let k = wire::least(content.len(), ENOUGH);
-    push_on(opened, own, region, &content[..k], answer)
+    let k = content.len().min(ENOUGH);
+    let a = push_on(opened, own, region, &content[..k]);
+    give(answer, own, a)
 }
 
 // Takes the next packet off the region's ring with all of its content, or leaves it where the buffer is shorter.
@@ -348,20 +339,32 @@ pub extern "C" fn petrelknob_unit_receive(
 {
     let y = region::plain(begin, end, alignment);
     let opened = open_ring(y, begin, end, alignment, region.len());
-    receive_on(opened, own, region, buffer, answer)
+    let a = receive_on(opened, own, region, buffer);
+    give(answer, own, a)
 }
 
 // ---- of sheets
 
-// The place of what a pick gives: which sheet, the begin in it, and the size.
-fn pick_numbers(x: Picked) -> [u32; 3]
+// The number of a pick: 0 where the path is found.
+fn pick_number(x: Result<Picked, Refusal>) -> u32
+    ensures { result ≡ (outcome_of x).number }
+{
+    match x {
+        Ok(Picked::InHand { .. }) => 0,
+        Ok(Picked::InIncoming { .. }) => 0,
+        Err(x) => x.number(),
+    }
+}
+
+// The place of what it gives: which sheet, the begin in it, and the size.
+fn pick_numbers(x: Result<Picked, Refusal>) -> [u32; 3]
     requires { (outcome_of x).begin + (outcome_of x).size ≤ 4096 }
     ensures { result ≡ pick_numbers (outcome_of x) }
 {
     match x {
-        Picked::InHand { begin, size } => [0, begin as u32, size as u32],
-        Picked::InIncoming { begin, size } => [1, begin as u32, size as u32],
-        Picked::Refused(_) => [0, 0, 0],
+        Ok(Picked::InHand { begin, size }) => [0, begin as u32, size as u32],
+        Ok(Picked::InIncoming { begin, size }) => [1, begin as u32, size as u32],
+        Err(_) => [0, 0, 0],
     }
 }
 
@@ -379,5 +382,5 @@ pub extern "C" fn petrelknob_pick(
     let picked = sheet::ask_pick(hand, incoming, path);
     let numbers = pick_numbers(picked);
     put_numbers(answer, &numbers);
-    picked.number()
+    pick_number(picked)
 }

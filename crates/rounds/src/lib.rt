@@ -2,37 +2,37 @@
 // checksum of what they answered. bench/calls.c makes the same rounds with an end in plain C, and compares.
 #![tactic(auto)]
 
-use blocks::Found;
-use icbmsg::{Bounds, Numbers, Opening};
+use icbmsg::{Bounds, Opening};
 use link::{Answer, End};
+use refusal::Refusal;
 
 // An answer as a number.
-fn number_of(a: Answer) -> u32 {
+fn number_of(a: Result<Answer, Refusal>) -> u32 {
     match a {
-        Answer::Accepted => 1,
-        Answer::Run { start, count } => start % 1024 + count % 1024 * 1024,
-        Answer::Control {
+        Ok(Answer::Accepted) => 1,
+        Ok(Answer::Run { start, count }) => start % 1024 + count % 1024 * 1024,
+        Ok(Answer::Control {
             kind,
             address,
             block,
-        } => kind as u32 * 65536 + address as u32 * 256 + block as u32,
-        Answer::Delivered {
+        }) => u32::from(kind) * 65536 + u32::from(address) * 256 + u32::from(block),
+        Ok(Answer::Delivered {
             address,
             block,
             length,
-        } => address as u32 * 256 + block as u32 + length % 65536 * 65536,
-        Answer::Refused(x) => std::num::wrapping_add_u32(1_000_000, x.number()),
+        }) => u32::from(address) * 256 + u32::from(block) + length % 65536 * 65536,
+        Err(x) => 1_000_000u32.wrapping_add(x.number()),
     }
 }
 
-fn added(sum: u32, a: Answer) -> u32 {
-    std::num::wrapping_add_u32(sum, number_of(a))
+fn added(sum: u32, a: Result<Answer, Refusal>) -> u32 {
+    sum.wrapping_add(number_of(a))
 }
 
 // Where a reservation starts. Of another answer, a start that no table has.
-fn start_of(a: Answer) -> u32 {
+fn start_of(a: Result<Answer, Refusal>) -> u32 {
     match a {
-        Answer::Run { start, count: _ } => start,
+        Ok(Answer::Run { start, count: _ }) => start,
         _ => 256,
     }
 }
@@ -60,10 +60,8 @@ fn opened(numbers: &[u32; 7]) -> End {
 // The end with `taken` reservations of one block each.
 fn crowded(fresh: End, taken: u32) -> End {
     let mut end = fresh;
-    let mut i: u32 = 0;
-    while i < taken {
-        let _ = End::reserve(end.numbers, &mut end.tables, 0);
-        i += 1;
+    for _ in 0..taken {
+        let _ = end.reserve(0);
     }
     end
 }
@@ -71,19 +69,12 @@ fn crowded(fresh: End, taken: u32) -> End {
 // Frees the first `blocks` transmit blocks, each a run, but for each `every`-th. It is not done by drop: a second caller would keep drop out of
 // the rounds that are timed.
 fn thin(both: &mut [u8; tables::BYTES], blocks: usize, every: usize) {
-    let t = &mut both[..];
-    if every == 0 {
+    if every == 0 || blocks::BLOCKS < blocks {
         return;
     }
-    if blocks::BLOCKS < blocks {
-        return;
-    }
-    let mut i: usize = 0;
-    while i < blocks {
-        let s = i;
-        i += 1;
-        if i % every != 0 {
-            tables::free_run(t, tables::SENT, s, 1);
+    for s in 0..blocks {
+        if (s + 1) % every != 0 {
+            tables::free_run(both, tables::SENT, s, 1);
         }
     }
 }
@@ -91,38 +82,16 @@ fn thin(both: &mut [u8; tables::BYTES], blocks: usize, every: usize) {
 // An initiator's end with one endpoint, bound to address 0.
 fn bound(fresh: End, tx: &mut [u8], rx: &[u8]) -> End {
     let mut end = fresh;
-    let name = *b"bench";
-    let registered = End::register(
-        end.numbers,
-        end.endpoints,
-        end.bindings,
-        &mut end.tables,
-        tx,
-        &name,
-    );
-    let called = registered.called;
-    let waiting = called.endpoint;
-    end.endpoints = waiting.applied(end.endpoints);
-    end.numbers.write = registered.write;
-    let message = [3u8, 0, 0];
-    let released = End::arrival(
-        end.numbers,
-        end.endpoints,
-        end.bindings,
-        &mut end.tables,
-        rx,
-        &message,
-    );
-    let bound = released.endpoint;
-    end.endpoints = bound.applied(end.endpoints);
+    let _ = end.register(tx, b"bench");
+    let _ = end.arrival(rx, &[3, 0, 0]);
     end
 }
 
 // The partner takes off all that is pushed: it writes its read index. Else the ring would be full after some rounds.
-fn take_off(n: Numbers, tx: &mut [u8]) {
-    let at = n.tx.ring_offset as usize;
+fn take_off(end: &End, tx: &mut [u8]) {
+    let at = end.numbers.tx.ring_offset as usize;
     if at + 4 <= tx.len() {
-        wire::write_u32(tx, at, n.write);
+        wire::write_u32(tx, at, end.numbers.write);
     }
 }
 
@@ -137,13 +106,11 @@ pub extern "C" fn petrelknob_rounds_reserve(
 ) -> u32 {
     let mut end = crowded(opened(opening), taken);
     thin(&mut end.tables, taken as usize, every as usize);
-    let mut sum: u32 = 0;
-    let mut i: u32 = 0;
-    while i < rounds {
-        let run = End::reserve(end.numbers, &mut end.tables, k);
-        let gone = End::drop(end.numbers, &mut end.tables, start_of(run));
+    let mut sum = 0;
+    for _ in 0..rounds {
+        let run = end.reserve(k);
+        let gone = end.drop(start_of(run));
         sum = added(added(sum, run), gone);
-        i += 1;
     }
     sum
 }
@@ -159,41 +126,13 @@ pub extern "C" fn petrelknob_rounds_send(
 ) -> u32 {
     let mut end = bound(opened(opening), tx, rx);
     let message = [1u8, 0, 0];
-    let mut sum: u32 = 0;
-    let mut i: u32 = 0;
-    while i < rounds {
-        let run = End::reserve(end.numbers, &mut end.tables, k);
-        let pushed = End::send(
-            end.numbers,
-            end.endpoints,
-            &mut end.tables,
-            tx,
-            start_of(run),
-            0,
-            k,
-        );
-        let order = pushed.answer;
-        end.numbers.write = pushed.write;
-        take_off(end.numbers, tx);
-        let released = End::arrival(
-            end.numbers,
-            end.endpoints,
-            end.bindings,
-            &mut end.tables,
-            rx,
-            &message,
-        );
-        let freed = released.answer;
-        let change = released.endpoint;
-        let place = change.place;
-        if let Found::At(j) = place {
-            if j < End::ENDPOINTS {
-                let endpoint = change.endpoint;
-                end.endpoints[j] = endpoint;
-            }
-        }
+    let mut sum = 0;
+    for _ in 0..rounds {
+        let run = end.reserve(k);
+        let order = end.send(tx, start_of(run), 0, k);
+        take_off(&end, tx);
+        let freed = end.arrival(rx, &message);
         sum = added(added(added(sum, run), order), freed);
-        i += 1;
     }
     sum
 }
@@ -208,32 +147,12 @@ pub extern "C" fn petrelknob_rounds_arrival(
 ) -> u32 {
     let mut end = bound(opened(opening), tx, rx);
     let message = [0u8, 0, 0];
-    let mut sum: u32 = 0;
-    let mut i: u32 = 0;
-    while i < rounds {
-        let arrived = End::arrival(
-            end.numbers,
-            end.endpoints,
-            end.bindings,
-            &mut end.tables,
-            rx,
-            &message,
-        );
-        let delivered = arrived.answer;
-        let change = arrived.endpoint;
-        let place = change.place;
-        if let Found::At(j) = place {
-            if j < End::ENDPOINTS {
-                let endpoint = change.endpoint;
-                end.endpoints[j] = endpoint;
-            }
-        }
-        let pushed = End::done(end.numbers, &mut end.tables, tx, 0);
-        let order = pushed.answer;
-        end.numbers.write = pushed.write;
-        take_off(end.numbers, tx);
+    let mut sum = 0;
+    for _ in 0..rounds {
+        let delivered = end.arrival(rx, &message);
+        let order = end.done(tx, 0);
+        take_off(&end, tx);
         sum = added(added(sum, delivered), order);
-        i += 1;
     }
     sum
 }

@@ -1,3 +1,4 @@
+pub mod WholeEnds
 pub mod Places
 pub mod Sums
 pub mod FirstRecord

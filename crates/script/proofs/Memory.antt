@@ -6,7 +6,7 @@ use mathlib.Core.List.{List}
 use native.Mathlib.Omega.{arith}
 use native.Mathlib.Nat.{min-eq_left, min-eq_right}
 use lib.Dec.{leb}
-use borrow.Author.Tests.{leb-true, leb-false, ne_eqb}
+use borrow.Author.Tests.{leb-true, leb-false}
 use lib.ListN.{length, take, length-take}
 use lib.Seq.{take-length, take_all}
 use Rattle.wire.specs.Reads.{answer}
@@ -15,10 +15,9 @@ use Rattle.icbmsg.specs.Rings.{pull_rule}
 use Rattle.icbmsg.specs.Calls.{rule, lent, read_from, step, pull}
 use Rattle.icbmsg.specs.End.{End}
 use Rattle.link.specs.Answers.{end_of}
-use Rattle.script.specs.Records.{number_at}
-use Rattle.script.specs.Calls.{call_outcome, nothing, record_step, RanAs}
-use Rattle.script.specs.declared.calls.Ran.{Ran}
-use Rattle.script.proofs.CallKinds.{but_for_writes}
+use Rattle.link.specs.declared.End.{End as CodeEnd}
+use Rattle.script.specs.Calls.{call_outcome, called, RanAs}
+use Rattle.script.specs.declared.kinds.CallKind.{CallKind}
 
 -- so many are lent
 pub length-first : (l : List ℕ) (n : ℕ) → n ≤ length l → n ≡ length (take n l)
@@ -35,28 +34,12 @@ first_least l n m e = rw e (go (leb n (length l)) refl)
         rw (min-eq_right le) (take-length l ∙ sym (take_all n l le))
 
 -- a pull into the first n bytes of the buffer
-pub pulled_as : (e : End) (rx buffer : List ℕ) (n m : ℕ) → m ≡ min n (length buffer) → {r : Ran} {o : Outcome} → RanAs r o →
-    o ≡ without_writes (answer (pull_rule e (length rx) (length (take m buffer))) rx) → RanAs r (step e (pull rx (take n buffer)))
+pub pulled_as : (e : End) (rx buffer : List ℕ) (n m : ℕ) → m ≡ min n (length buffer) → (o : Outcome) →
+    o ≡ without_writes (answer (pull_rule e (length rx) (length (take m buffer))) rx) → o ≡ without_writes (step e (pull rx (take n buffer)))
 unfolding step rule read_from lent
-pulled_as e rx buffer n m h r k = rw (← (first_least buffer n m h)) (but_for_writes r k)
+pulled_as e rx buffer n m h o k = rw (← (first_least buffer n m h)) k
 
--- ---- what a record does, by its kind
-
-module _ (e : End) (n m : ℕ) (b tx rx buffer : List ℕ) (k : ℕ) where
-  pub writes-rx : k ≡ 32 → nothing e n m ≡ record_step k b e n m tx rx buffer
-  unfolding record_step
-  writes-rx h = rw h
-
-  pub writes-tx : k ≡ 33 → nothing e n m ≡ record_step k b e n m tx rx buffer
-  unfolding record_step
-  writes-tx h = rw h
-
-  pub lends : (i j : ℕ) → i ≡ number_at 4 b 0 → j ≡ number_at 4 b 4 → k ≡ 34 → nothing e i j ≡ record_step k b e n m tx rx buffer
-  unfolding record_step
-  lends i j p q h = rw (h, p, q)
-
-  pub calls : (i j : ℕ) → i ≡ min n (length tx) → j ≡ min m (length rx) → (k ≡ 32 → ⊥) → (k ≡ 33 → ⊥) → (k ≡ 34 → ⊥) → {r : Ran} →
-      RanAs r (call_outcome e k b (take i tx) (take j rx) buffer) → record { reply = r.reply; end = end_of r.end; lent_tx = n; lent_rx = m } ≡ record_step k b e n m tx rx buffer
-  unfolding record_step
-  calls i j p q u v w {r} h =
-      rw (ne_eqb k 32 u, ne_eqb k 33 v, ne_eqb k 34 w, ← (first_least tx n i p), ← (first_least rx m j q), h.reply, h.end)
+-- what a record that is a call leaves beside the memory
+pub calls : (e : End) (n m : ℕ) (b tx rx buffer : List ℕ) (k : CallKind) (i j : ℕ) → i ≡ min n (length tx) → j ≡ min m (length rx) → (r : List ℕ) (e' : CodeEnd) →
+    RanAs r e' (call_outcome e k b (take i tx) (take j rx) buffer) → record { reply = r; end = end_of e'; lent_tx = n; lent_rx = m } ≡ called (call_outcome e k b (take n tx) (take m rx) buffer) n m
+calls e n m b tx rx buffer k i j p q r e' h = rw (← (first_least tx n i p), ← (first_least rx m j q), h.reply, h.end)

@@ -5,11 +5,10 @@ use mathlib.Core.Path.{◌≡◌, refl, sym, ap, ◌∙◌}
 use mathlib.Core.List.{List, [], ◌∷◌, ◌++◌}
 use native.Mathlib.Omega.{arith}
 use native.Mathlib.Nat.{min-eq_left, min-eq_right}
-use lib.Dec.{leb, eqb}
+use lib.Dec.{leb}
 use lib.ListN.{length, take, drop, set, length-take, length-drop, length-set, take-append-drop}
 use lib.Seq.{set-append_left, set_out, take_all}
-use borrow.Author.Tests.{leb-true, leb-false, ne_eqb}
-use Rattle.wire.specs.Choice.{pick}
+use borrow.Author.Tests.{leb-true, leb-false}
 use Rattle.wire.specs.Bytes.{straight, bytes, writes, wrote, Inside}
 use Rattle.wire.proofs.Positions.{within_wider, length-wrote, wrote-append, writes-append, bytes-part, bytes_at-same, bytes-all}
 use Rattle.wire.specs.Reads.{answer}
@@ -24,7 +23,9 @@ use Rattle.icbmsg.specs.Calls.{Call, start, push, pull, reserve, room, send, dro
 use Rattle.icbmsg.specs.End.{End}
 use Rattle.icbmsg.proofs.Writes.{writes_stay_inside}
 use Rattle.script.specs.Records.{number_at}
-use Rattle.script.specs.Calls.{call_of, call_outcome, overwritten, Leaves, Wrote}
+use Rattle.script.specs.Calls.{call_of, call_outcome, Wrote}
+use Rattle.script.specs.declared.kinds.CallKind.{CallKind}
+use Rattle.script.specs.declared.kinds.CallKind.TheVariants.{Arrival, Register, Reserve, Send, Drop, Done, Push, Start, Pull, Room, View, RoomQuestion, ViewQuestion}
 use Rattle.script.proofs.Memory.{first_least}
 
 -- ---- writes inside the first bytes
@@ -143,28 +144,24 @@ module _ (e : End) where
 
 -- ---- the lent bytes after a call of kind k, whose outcome o is that of its rule, x
 
-module _ (k : ℕ) {x o : Outcome} (h : x ≡ o) where
+module _ (k : CallKind) {x o : Outcome} (h : x ≡ o) where
   pub quiet_as : (tx rx buffer : List ℕ) → Quiet x → Wrote k o tx rx buffer tx rx buffer
   unfolding wrote
-  quiet_as tx rx buffer q = rw (← h) (record { transmit = (λ _. rw q.0); receive = rw q.1; buffered = rw q.2 })
+  quiet_as tx rx buffer q = rw (← h) (record { transmit = (λ _. rw q.0); as_many = refl; receive = rw q.1; buffered = rw q.2 })
 
   pub sent_as : (tx rx buffer tx' : List ℕ) → tx' ≡ wrote tx x.tx → (x.rx ≡ []) × (x.buffer ≡ []) → Wrote k o tx rx buffer tx' rx buffer
   unfolding wrote
-  sent_as tx rx buffer tx' p q = rw (← h) (record { transmit = (λ _. p); receive = rw q.0; buffered = rw q.1 })
+  sent_as tx rx buffer tx' p q = rw (← h) (record { transmit = (λ _. p); as_many = ap length p ∙ length-wrote tx x.tx; receive = rw q.0; buffered = rw q.1 })
 
   pub pulled_in : (tx rx buffer rx' buffer' : List ℕ) → x.tx ≡ [] → rx' ≡ wrote rx x.rx → buffer' ≡ wrote buffer x.buffer → Wrote k o tx rx buffer tx rx' buffer'
   unfolding wrote
-  pulled_in tx rx buffer rx' buffer' q p r = rw (← h) (record { transmit = (λ _. rw q); receive = p; buffered = r })
+  pulled_in tx rx buffer rx' buffer' q p r = rw (← h) (record { transmit = (λ _. rw q); as_many = refl; receive = p; buffered = r })
 
-  pub room_as : (tx rx buffer tx' : List ℕ) → k ≡ 18 → Quiet x → Wrote k o tx rx buffer tx' rx buffer
+  pub room_as : (tx rx buffer tx' : List ℕ) → k ≡ Room → length tx' ≡ length tx → Quiet x → Wrote k o tx rx buffer tx' rx buffer
   unfolding wrote
-  room_as tx rx buffer tx' z q = rw (← h) (record { transmit = (λ n. absurd (n z)); receive = rw q.1; buffered = rw q.2 })
+  room_as tx rx buffer tx' z l q = rw (← h) (record { transmit = (λ n. absurd (n z)); as_many = l; receive = rw q.1; buffered = rw q.2 })
 
 -- every call of a script writes inside what it is lent
-
-pick_call : (P : Call → Type 0) (b : Bool) (c d : Call) → P c → P d → P (pick b c d)
-pick_call P true c d h k = h
-pick_call P false c d h k = k
 
 module _ (e : End) (tx rx : List ℕ) where
   abbrev Lies : Call → Type 0
@@ -173,44 +170,33 @@ module _ (e : End) (tx rx : List ℕ) where
   leaf : (c : Call) → length (lent c).tx ≤ length tx → length (lent c).rx ≤ length rx → Lies c
   leaf c h k = let w = writes_stay_inside e c in (within_wider 0 (length (lent c).tx) 0 (length tx) (step e c).tx (omega arith) h w.tx, within_wider 0 (length (lent c).rx) 0 (length rx) (step e c).rx (omega arith) k w.rx)
 
-  within : (k : ℕ) (b buffer : List ℕ) → Lies (call_of k b tx rx buffer)
-  unfolding call_of lent
-  within k b buffer =
-      pick_call Lies (eqb k 0) _ _ (leaf (arrival rx b) (omega arith) (omega arith))
-      (pick_call Lies (eqb k 1) _ _ (leaf (register tx b) (omega arith) (omega arith))
-      (pick_call Lies (eqb k 2) _ _ (leaf (reserve (number_at 4 b 0)) (omega arith) (omega arith))
-      (pick_call Lies (eqb k 3) _ _ (leaf (send tx (number_at 4 b 0) (number_at 4 b 4) (number_at 4 b 8)) (omega arith) (omega arith))
-      (pick_call Lies (eqb k 4) _ _ (leaf (dropCall (number_at 4 b 0)) (omega arith) (omega arith))
-      (pick_call Lies (eqb k 5) _ _ (leaf (done tx (number_at 4 b 0)) (omega arith) (omega arith))
-      (pick_call Lies (eqb k 6) _ _ (leaf (push tx b) (omega arith) (omega arith))
-      (pick_call Lies (eqb k 16) _ _ (leaf (start tx) (omega arith) (omega arith))
-      (pick_call Lies (eqb k 17) _ _ (leaf (pull rx (take (number_at 2 b 0) buffer)) (omega arith) (omega arith))
-      (pick_call Lies (eqb k 18) _ _ (leaf (room tx (number_at 4 b 0)) (omega arith) (omega arith))
-      (pick_call Lies (eqb k 19) _ _ (leaf (view rx (number_at 4 b 0)) (omega arith) (omega arith))
-      (pick_call Lies (eqb k 20) _ _ (leaf (ask_room (number_at 4 b 0) (number_at 4 b 4)) (omega arith) (omega arith))
-      (leaf (ask_view (number_at 4 b 0) (number_at 4 b 4)) (omega arith) (omega arith)))))))))))))
+  within : (k : CallKind) (b buffer : List ℕ) → Lies (call_of k b tx rx buffer)
+  unfolding lent
+  within Arrival b buffer = leaf (arrival rx b) (omega arith) (omega arith)
+  within Register b buffer = leaf (register tx b) (omega arith) (omega arith)
+  within Reserve b buffer = leaf (reserve (number_at 4 b 0)) (omega arith) (omega arith)
+  within Send b buffer = leaf (send tx (number_at 4 b 0) (number_at 4 b 4) (number_at 4 b 8)) (omega arith) (omega arith)
+  within Drop b buffer = leaf (dropCall (number_at 4 b 0)) (omega arith) (omega arith)
+  within Done b buffer = leaf (done tx (number_at 4 b 0)) (omega arith) (omega arith)
+  within Push b buffer = leaf (push tx b) (omega arith) (omega arith)
+  within Start b buffer = leaf (start tx) (omega arith) (omega arith)
+  within Pull b buffer = leaf (pull rx (take (number_at 2 b 0) buffer)) (omega arith) (omega arith)
+  within Room b buffer = leaf (room tx (number_at 4 b 0)) (omega arith) (omega arith)
+  within View b buffer = leaf (view rx (number_at 4 b 0)) (omega arith) (omega arith)
+  within RoomQuestion b buffer = leaf (ask_room (number_at 4 b 0) (number_at 4 b 4)) (omega arith) (omega arith)
+  within ViewQuestion b buffer = leaf (ask_view (number_at 4 b 0) (number_at 4 b 4)) (omega arith) (omega arith)
 
--- ---- the memory after a record
+-- ---- the memory after a record that is a call, which is lent the first bytes
 
-module _ (k : ℕ) (b : List ℕ) (o : Outcome) (tx rx buffer : List ℕ) where
-  pub leaves_rx : (rx' : List ℕ) → k ≡ 32 → rx' ≡ overwritten rx b → Leaves k b o tx rx buffer tx rx' buffer
-  leaves_rx rx' z p = record { transmit = (λ _. rw z); as_many = refl; receive = rw z p; buffered = rw z }
-
-  pub leaves_tx : (tx' : List ℕ) → k ≡ 33 → length tx' ≡ length tx → tx' ≡ overwritten tx b → Leaves k b o tx rx buffer tx' rx buffer
-  leaves_tx tx' z l p = record { transmit = (λ _. rw z p); as_many = l; receive = rw z; buffered = rw z }
-
-  pub leaves_all : k ≡ 34 → Leaves k b o tx rx buffer tx rx buffer
-  leaves_all z = record { transmit = (λ _. rw z); as_many = refl; receive = rw z; buffered = rw z }
-
-pub leaves_call : (e : End) (n m : ℕ) (b tx rx buffer : List ℕ) (k i j : ℕ) → i ≡ min n (length tx) → j ≡ min m (length rx) → (k ≡ 32 → ⊥) → (k ≡ 33 → ⊥) → (k ≡ 34 → ⊥) →
+pub leaves_call : (e : End) (n m : ℕ) (b tx rx buffer : List ℕ) (k : CallKind) (i j : ℕ) → i ≡ min n (length tx) → j ≡ min m (length rx) →
     (tx' rx' buffer' : List ℕ) → length (tx' ++ drop i tx) ≡ length tx → Wrote k (call_outcome e k b (take i tx) (take j rx) buffer) (take i tx) (take j rx) buffer tx' rx' buffer' →
-    Leaves k b (call_outcome e k b (take n tx) (take m rx) buffer) tx rx buffer (tx' ++ drop i tx) (rx' ++ drop j rx) buffer'
-leaves_call e n m b tx rx buffer k i j p q u v w tx' rx' buffer' l h =
+    Wrote k (call_outcome e k b (take n tx) (take m rx) buffer) tx rx buffer (tx' ++ drop i tx) (rx' ++ drop j rx) buffer'
+leaves_call e n m b tx rx buffer k i j p q tx' rx' buffer' l h =
     let inside = within e (take i tx) (take j rx) k b buffer in
     rw (← (first_least tx n i p), ← (first_least rx m j q))
     (record {
-      transmit = (λ z. rw (ne_eqb k 33 v, ne_eqb k 32 u, ne_eqb k 34 w) (ap (λ (x : List ℕ). x ++ drop i tx) (h.transmit z) ∙ wrote-first tx i _ inside.0));
+      transmit = (λ z. ap (λ (x : List ℕ). x ++ drop i tx) (h.transmit z) ∙ wrote-first tx i _ inside.0);
       as_many = l;
-      receive = rw (ne_eqb k 32 u, ne_eqb k 33 v, ne_eqb k 34 w) (ap (λ (x : List ℕ). x ++ drop j rx) h.receive ∙ wrote-first rx j _ inside.1);
-      buffered = rw (ne_eqb k 32 u, ne_eqb k 33 v, ne_eqb k 34 w) h.buffered;
+      receive = ap (λ (x : List ℕ). x ++ drop j rx) h.receive ∙ wrote-first rx j _ inside.1;
+      buffered = h.buffered;
     })

@@ -1,69 +1,111 @@
-// The kinds of records (docs/SCRIPT.md), by name, and the bodies that they have.
+// The kinds of records (docs/SCRIPT.md), and the bodies that they have.
 ghost use Rattle.std.specs.Prelude.{◌≡◌};
-ghost use Rattle.script.specs.Records.{body_of};
+ghost use Rattle.script.specs.Records.{kind_of, call_body, body_of, admits};
 
-pub const ARRIVAL: u8 = 0;
+// The calls on an end.
+#[derive(Clone, Copy)]
+pub enum CallKind {
+    Arrival,
+    Register,
+    Reserve,
+    Send,
+    Drop,
+    Done,
+    Push,
+    Start,
+    Pull,
+    Room,
+    View,
+    RoomQuestion,
+    ViewQuestion,
+}
 
-pub const REGISTER: u8 = 1;
-
-pub const RESERVE: u8 = 2;
-
-pub const SEND: u8 = 3;
-
-pub const DROP: u8 = 4;
-
-pub const DONE: u8 = 5;
-
-pub const PUSH: u8 = 6;
-
-pub const START: u8 = 16;
-
-pub const PULL: u8 = 17;
-
-pub const ROOM: u8 = 18;
-
-pub const VIEW: u8 = 19;
-
-pub const ROOM_QUESTION: u8 = 20;
-
-pub const VIEW_QUESTION: u8 = 21;
-
-pub const WRITE_RX: u8 = 32;
-
-pub const WRITE_TX: u8 = 33;
-
-pub const LEND: u8 = 34;
+// A record is a call, or what happens around the end: a write to the receive or the transmit bytes, or a lend.
+#[derive(Clone, Copy)]
+pub enum Kind {
+    Call(CallKind),
+    WriteRx,
+    WriteTx,
+    Lend,
+}
 
 // How long the body of a record is, by its kind.
 #[derive(Clone, Copy)]
 pub enum Body {
-    // The format has no such kind.
-    Unknown,
     Any,
     Exactly(usize),
     AtLeast(usize),
 }
 
-pub fn body_of(kind: u8) -> Body
-    ensures { result ≡ body_of kind }
-{
-    match kind {
-        ARRIVAL => Body::Any,
-        REGISTER => Body::Any,
-        PUSH => Body::Any,
-        RESERVE => Body::Exactly(4),
-        DROP => Body::Exactly(4),
-        DONE => Body::Exactly(4),
-        ROOM => Body::Exactly(4),
-        VIEW => Body::Exactly(4),
-        SEND => Body::Exactly(12),
-        START => Body::Exactly(0),
-        PULL => Body::Exactly(2),
-        ROOM_QUESTION => Body::Exactly(8),
-        VIEW_QUESTION => Body::Exactly(8),
-        LEND => Body::Exactly(8),
-        WRITE_RX => Body::AtLeast(4),
-        WRITE_TX => Body::AtLeast(4),
-        _ => Body::Unknown,
+impl Kind {
+    // The kind of this number, if the format has it.
+    pub fn of(number: u8) -> Option<Kind>
+        ensures { result ≡ kind_of number }
+    {
+        match number {
+            0 => Some(Kind::Call(CallKind::Arrival)),
+            1 => Some(Kind::Call(CallKind::Register)),
+            2 => Some(Kind::Call(CallKind::Reserve)),
+            3 => Some(Kind::Call(CallKind::Send)),
+            4 => Some(Kind::Call(CallKind::Drop)),
+            5 => Some(Kind::Call(CallKind::Done)),
+            6 => Some(Kind::Call(CallKind::Push)),
+            16 => Some(Kind::Call(CallKind::Start)),
+            17 => Some(Kind::Call(CallKind::Pull)),
+            18 => Some(Kind::Call(CallKind::Room)),
+            19 => Some(Kind::Call(CallKind::View)),
+            20 => Some(Kind::Call(CallKind::RoomQuestion)),
+            21 => Some(Kind::Call(CallKind::ViewQuestion)),
+            32 => Some(Kind::WriteRx),
+            33 => Some(Kind::WriteTx),
+            34 => Some(Kind::Lend),
+            _ => None,
+        }
+    }
+
+    pub fn body(self) -> Body
+        ensures { result ≡ body_of self }
+    {
+        match self {
+            Kind::Call(call) => call.body(),
+            Kind::WriteRx => Body::AtLeast(4),
+            Kind::WriteTx => Body::AtLeast(4),
+            Kind::Lend => Body::Exactly(8),
+        }
+    }
+}
+
+impl CallKind {
+    fn body(self) -> Body
+        ensures { result ≡ call_body self }
+    {
+        match self {
+            CallKind::Arrival => Body::Any,
+            CallKind::Register => Body::Any,
+            CallKind::Reserve => Body::Exactly(4),
+            CallKind::Send => Body::Exactly(12),
+            CallKind::Drop => Body::Exactly(4),
+            CallKind::Done => Body::Exactly(4),
+            CallKind::Push => Body::Any,
+            CallKind::Start => Body::Exactly(0),
+            CallKind::Pull => Body::Exactly(2),
+            CallKind::Room => Body::Exactly(4),
+            CallKind::View => Body::Exactly(4),
+            CallKind::RoomQuestion => Body::Exactly(8),
+            CallKind::ViewQuestion => Body::Exactly(8),
+        }
+    }
+}
+
+impl Body {
+    // Whether a body may have n bytes.
+    pub fn admits(self, n: usize) -> bool
+        ensures { result ≡ admits self n }
+    {
+        match self {
+            Body::Any => true,
+            Body::Exactly(m) => n == m,
+            Body::AtLeast(m) => m <= n,
+        }
     }
 }

@@ -12,8 +12,8 @@ ghost use Rattle.script.specs.Script.{opening_step, with_row, result_of, RowsFro
 
 use calls::Lent;
 use icbmsg::Opening;
+use kinds::Kind;
 use link::End;
-use records::{Begun, Next};
 
 // What a record leaves beside the memory.
 #[derive(Clone, Copy)]
@@ -28,48 +28,43 @@ fn open(opening: Opening, tx: &[u8], rx: &[u8], buffer: &[u8], out: &mut [u8]) -
     ensures left { IsLeft result (opening_step opening) }
     ensures out { out.new ≡ with_row out.old 0 (opening_step opening) tx.now rx.now buffer.now }
 {
-    let called = End::open(opening);
-    let answer = called.answer;
-    let end = called.end;
+    let opened = End::open(opening);
     let lent = Lent {
         tx: records::bytes(opening.tx),
         rx: records::bytes(opening.rx),
     };
-    let row = rows::row(rows::answered(answer), end, tx, rx, buffer);
+    let row = rows::row(rows::answered(opened.answer), &opened.end, tx, rx, buffer);
     wire::write_numbers(out, 0, &row);
-    Left { end, lent }
+    Left {
+        end: opened.end,
+        lent,
+    }
 }
 
 // Runs a record, and writes its row at p.
 fn run_record(
-    left: Left,
-    kind: u8,
+    left: &mut Left,
+    kind: Kind,
     body: &[u8],
     tx: &mut [u8],
     rx: &mut [u8],
     buffer: &mut [u8],
     out: &mut [u8],
     p: usize,
-) -> Left
+)
     requires { (has kind (length body.now) ≡ true) × (p + 56 ≤ length out.old) }
-    ensures left { IsLeft result (left_step left kind body.now tx.old rx.old buffer.old) }
-    ensures memory { LeftLeaves left kind body.now tx.old rx.old buffer.old tx.new rx.new buffer.new }
-    ensures out { out.new ≡ with_row out.old p (left_step left kind body.now tx.old rx.old buffer.old) tx.new rx.new buffer.new }
+    ensures left { IsLeft left.new (left_step left.old kind body.now tx.old rx.old buffer.old) }
+    ensures memory { LeftLeaves left.old kind body.now tx.old rx.old buffer.old tx.new rx.new buffer.new }
+    ensures out { out.new ≡ with_row out.old p (left_step left.old kind body.now tx.old rx.old buffer.old) tx.new rx.new buffer.new }
 {
-    let before = left.end;
-    let before_lent = left.lent;
-    let stepped = calls::step(before, before_lent, kind, body, tx, rx, buffer);
-    let reply = stepped.reply;
-    let end = stepped.end;
-    let lent = stepped.lent;
-    let row = rows::row(reply, end, tx, rx, buffer);
+    let reply = calls::step(&mut left.end, &mut left.lent, kind, body, tx, rx, buffer);
+    let row = rows::row(reply, &left.end, tx, rx, buffer);
     wire::write_numbers(out, p, &row);
-    Left { end, lent }
 }
 
 // Runs the records behind the opening, and answers how many bytes of `out` have rows then.
 fn run_records(
-    opened: Left,
+    mut left: Left,
     script: &[u8],
     tx: &mut [u8],
     rx: &mut [u8],
@@ -77,19 +72,28 @@ fn run_records(
     out: &mut [u8],
 ) -> usize
     requires { (22 ≤ length script.now) × (56 ≤ length out.old) }
-    ensures rows { RowsFrom (drop 22 script.now) 56 opened tx.old rx.old buffer.old out.old (result_of result out.new tx.new rx.new buffer.new) }
+    ensures rows { RowsFrom (drop 22 script.now) 56 left tx.old rx.old buffer.old out.old (result_of result out.new tx.new rx.new buffer.new) }
     ensures fits { result ≤ length out.old }
 {
-    let mut left = opened;
     let mut at = records::OPENING;
     let mut written = rows::BYTES;
+    // Each record says where the next begins.
     while rows::BYTES <= out.len() - written {
-        let Next::Whole { kind, length } = records::first_record(&script[at..]) else {
+        let Some(next) = records::first_record(&script[at..]) else {
             return written;
         };
         let begin = at + records::HEADER;
-        at = begin + length;
-        left = run_record(left, kind, &script[begin..at], tx, rx, buffer, out, written);
+        at = begin + next.length;
+        run_record(
+            &mut left,
+            next.kind,
+            &script[begin..at],
+            tx,
+            rx,
+            buffer,
+            out,
+            written,
+        );
         written += rows::BYTES;
     }
     written
@@ -101,7 +105,7 @@ pub fn run(script: &[u8], tx: &mut [u8], rx: &mut [u8], buffer: &mut [u8], out: 
     ensures run { Runs script.now tx.old rx.old buffer.old out.old (result_of result out.new tx.new rx.new buffer.new) }
     ensures fits { result ≤ length out.old }
 {
-    let Begun::Opening(opening) = records::opening(script) else {
+    let Some(opening) = records::opening(script) else {
         return 0;
     };
     if out.len() < rows::BYTES {

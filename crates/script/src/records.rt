@@ -1,8 +1,8 @@
 // The opening and the records of a script.
 ghost use Rattle.std.specs.Prelude.{◌≡◌, length};
-ghost use Rattle.script.specs.Records.{begun, bytes_of, has as hasRule, first_record};
+ghost use Rattle.script.specs.Records.{begun, bytes_of, first_record};
 
-use crate::kinds::{Body, body_of};
+use crate::kinds::Kind;
 use icbmsg::{Bounds, Opening};
 
 // Bytes of an opening, and of a record before its body: its kind, and the length of its body.
@@ -10,26 +10,19 @@ pub const OPENING: usize = 22;
 
 pub const HEADER: usize = 3;
 
+// A record: its kind, and the length of its body.
 #[derive(Clone, Copy)]
-pub enum Begun {
-    Short,
-    Opening(Opening),
+pub struct Record {
+    pub kind: Kind,
+    pub length: usize,
 }
 
-#[derive(Clone, Copy)]
-pub enum Next {
-    // The script ends, or what follows is no record of the format.
-    Stop,
-    // A whole record: its kind, and the length of its body.
-    Whole { kind: u8, length: usize },
-}
-
-// What a script opens.
-pub fn opening(script: &[u8]) -> Begun
+// What a script opens, if it has an opening.
+pub fn opening(script: &[u8]) -> Option<Opening>
     ensures { result ≡ begun script.now }
 {
     if script.len() < OPENING {
-        return Begun::Short;
+        return None;
     }
     let tx = Bounds {
         begin: wire::read_u32(script, 0),
@@ -41,7 +34,7 @@ pub fn opening(script: &[u8]) -> Begun
         end: wire::read_u32(script, 12),
         block_count: wire::read_u16(script, 18),
     };
-    Begun::Opening(Opening {
+    Some(Opening {
         alignment: wire::read_u16(script, 20),
         tx,
         rx,
@@ -52,40 +45,24 @@ pub fn opening(script: &[u8]) -> Begun
 pub fn bytes(b: Bounds) -> usize
     ensures { result ≡ bytes_of b }
 {
-    if b.begin < b.end {
-        (b.end - b.begin) as usize
-    } else {
-        0
-    }
+    b.end.saturating_sub(b.begin) as usize
 }
 
-// Whether the format has records of this kind with a body of n bytes.
-fn has(kind: u8, n: usize) -> bool
-    ensures { result ≡ hasRule kind n }
-{
-    match body_of(kind) {
-        Body::Unknown => false,
-        Body::Any => true,
-        Body::Exactly(m) => n == m,
-        Body::AtLeast(m) => m <= n,
-    }
-}
-
-// The record that the rest of a script begins with.
-pub fn first_record(rest: &[u8]) -> Next
+// The record that the rest of a script begins with. None where the script ends, or what follows is no record of the format.
+pub fn first_record(rest: &[u8]) -> Option<Record>
     ensures { result ≡ first_record rest.now }
 {
     if rest.len() < HEADER {
-        return Next::Stop;
+        return None;
     }
-    let kind = rest[0];
     let length = wire::read_u16(rest, 1) as usize;
     if rest.len() - HEADER < length {
-        return Next::Stop;
+        return None;
     }
-    if has(kind, length) {
-        Next::Whole { kind, length }
+    let kind = Kind::of(rest[0])?;
+    if kind.body().admits(length) {
+        Some(Record { kind, length })
     } else {
-        Next::Stop
+        None
     }
 }

@@ -1,140 +1,135 @@
 // Runs the call script on standard input (docs/SCRIPT.md), prints each row as a line of decimal numbers, and says where and why it
-// stopped early.
+// stopped early. A line that standard output does not take is lost.
 #![tactic(auto)]
 
-ghost use Rattle.std.specs.Prelude.{◌≡◌, ◌+◌, ◌≤◌, length};
+ghost use Rattle.std.specs.Prelude.{◌≤◌, length};
 
-use lines::Line;
-use script::kinds::Body;
-use script::records::Next;
-use script::{kinds, records};
+use script::kinds::{Body, Kind};
+use script::records;
+use std::alloc::AllocError;
+use std::fmt;
+use std::io::Read;
 
 // The most bytes of a script, and of its rows: 4,681 of them.
-fn space() -> [u8; 262144]
-    ensures { 262144 ≡ length result }
-{
-    [0; 262144]
-}
+const MOST: usize = 262_144;
 
-// The most bytes of a region.
-fn region() -> [u8; 16384]
-    ensures { 16384 ≡ length result }
-{
-    [0; 16384]
-}
+// Bytes of a row.
+const ROW: usize = 56;
 
-// The row at p.
-fn print_row(rows: &[u8], p: usize)
-    requires { p + 56 ≤ length rows.now }
-{
-    let mut line = Line::new().number(wire::read_u32(rows, p));
-    let mut i = 1;
-    while i < 14 {
-        line = line.byte(b' ').number(wire::read_u32(rows, p + 4 * i));
-        i += 1;
-    }
-    line.print();
-}
+// A row as decimal numbers.
+#[derive(Clone, Copy)]
+struct Row<'a>(&'a [u8]);
 
-// The rows in the first n bytes.
-fn print_rows(rows: &[u8], n: usize) {
-    let end = wire::least(n, rows.len());
-    let mut p = 0;
-    while 56 <= end - p {
-        print_row(rows, p);
-        p += 56;
+impl<'a> fmt::Display for Row<'a> {
+    fn fmt<W: fmt::Write>(&self, f: &mut fmt::Formatter<W>) -> fmt::Result {
+        let (numbers, _) = self.0.as_chunks();
+        f.write_joined(
+            numbers.iter().map(|number| u32::from_le_bytes(*number)),
+            " ",
+        )
     }
 }
 
 // ---- where it stopped
 
-// The most bytes of a body.
-const MOST: usize = 65535;
+// How many bytes are left, none of them used.
+#[derive(Clone, Copy)]
+struct Left(usize);
 
-// The position behind the opening and the records that gave rows.
-fn behind(script: &[u8], rows: usize) -> usize {
-    let mut p = wire::least(records::OPENING, script.len());
-    let mut i = 1;
-    while i < rows {
-        match records::first_record(&script[p..]) {
-            Next::Stop => return p,
-            Next::Whole { kind: _, length } => {
-                let n = records::HEADER + wire::least(length, MOST);
-                p += wire::least(n, script.len() - p);
+impl fmt::Display for Left {
+    fn fmt<W: fmt::Write>(&self, f: &mut fmt::Formatter<W>) -> fmt::Result {
+        match self.0 {
+            1 => f.write_str("1 is left"),
+            n => write!(f, "{n} are left"),
+        }
+    }
+}
+
+// Why no record of the format begins the rest: it is no whole record, or one that the format does not have; else its row did not fit.
+#[derive(Clone, Copy)]
+struct Why<'a>(&'a [u8]);
+
+impl<'a> fmt::Display for Why<'a> {
+    fn fmt<W: fmt::Write>(&self, f: &mut fmt::Formatter<W>) -> fmt::Result {
+        let rest = self.0;
+        let left = Left(rest.len());
+        if rest.len() < records::HEADER {
+            return write!(f, "a record header of 3 bytes where {left}");
+        }
+        let length = wire::read_u16(rest, 1) as usize;
+        let whole = records::HEADER + length;
+        if rest.len() < whole {
+            return write!(f, "a record of {whole} bytes where {left}");
+        }
+        match records::first_record(rest) {
+            None => write!(f, "{}", Wanted(rest[0], length)),
+            Some(_) => f.write_str("the output is full"),
+        }
+    }
+}
+
+// A kind, and the length of a body that it does not have.
+#[derive(Clone, Copy)]
+struct Wanted(u8, usize);
+
+impl fmt::Display for Wanted {
+    fn fmt<W: fmt::Write>(&self, f: &mut fmt::Formatter<W>) -> fmt::Result {
+        let Wanted(kind, length) = *self;
+        match Kind::of(kind).map(|kind| kind.body()) {
+            Some(Body::Exactly(n)) => write!(f, "body of {length} bytes where {n} are wanted"),
+            Some(Body::AtLeast(n)) => {
+                write!(f, "body of {length} bytes where {n} or more are wanted")
             }
+            _ => write!(f, "unknown kind {kind}"),
         }
-        i += 1;
-    }
-    p
-}
-
-// A number of bytes; a script has at most 262,144.
-fn count(line: Line, n: usize) -> Line {
-    line.number(wire::least(n, 262144) as u32)
-}
-
-fn left(line: Line, n: usize) -> Line {
-    let line = count(line, n);
-    if n == 1 {
-        line.text(b" is left")
-    } else {
-        line.text(b" are left")
     }
 }
 
-// A body of n bytes where the kind has another.
-fn wanted(line: Line, kind: u8, n: usize) -> Line {
-    match kinds::body_of(kind) {
-        Body::Exactly(m) => {
-            let line = count(line.text(b"body of "), n);
-            count(line.text(b" bytes where "), m).text(b" are wanted")
-        }
-        Body::AtLeast(m) => {
-            let line = count(line.text(b"body of "), n);
-            count(line.text(b" bytes where "), m).text(b" or more are wanted")
-        }
-        _ => line.text(b"unknown kind ").number(wire::wide(kind)),
+// What is behind the opening and the records that gave rows.
+fn behind(script: &[u8], rows: usize) -> &[u8]
+    ensures { length result.now ≤ length script.now }
+{
+    let mut rest = &script[records::OPENING.min(script.len())..];
+    for _ in 1..rows {
+        let Some(next) = records::first_record(rest) else {
+            break;
+        };
+        let whole = records::HEADER.saturating_add(next.length);
+        rest = &rest[whole.min(rest.len())..];
     }
-}
-
-// Why no record follows: what is left is no whole record, or one that the format does not have; else its row did not fit.
-fn why(line: Line, rest: &[u8]) -> Line {
-    let n = rest.len();
-    if n < records::HEADER {
-        return left(line.text(b"a record header of 3 bytes where "), n);
-    }
-    let length = wire::read_u16(rest, 1) as usize;
-    if n - records::HEADER < length {
-        let line = count(line.text(b"a record of "), records::HEADER + length);
-        return left(line.text(b" bytes where "), n);
-    }
-    match records::first_record(rest) {
-        Next::Stop => wanted(line, rest[0], length),
-        Next::Whole { kind: _, length: _ } => line.text(b"the output is full"),
-    }
+    rest
 }
 
 // Says where and why the script stopped, unless it ran to its end.
-fn print_stop(script: &[u8], rows: usize) {
-    let line = Line::new().text(b"stops at byte ");
+fn print_stop(rt: &impl Print, script: &[u8], rows: usize) {
     if rows == 0 {
-        left(line.text(b"0: an opening of 22 bytes where "), script.len()).print();
+        println!(rt;
+            "stops at byte 0: an opening of 22 bytes where {}",
+            Left(script.len())
+        )
+        .ok();
         return;
     }
-    let p = behind(script, rows);
-    if p < script.len() {
-        why(count(line, p).text(b": "), &script[p..]).print();
+    let rest = behind(script, rows);
+    if !rest.is_empty() {
+        let at = script.len() - rest.len();
+        println!(rt; "stops at byte {at}: {}", Why(rest)).ok();
     }
 }
 
-fn main() {
-    let mut script = space();
-    let length = io::read_full(0, &mut script);
-    let mut tx = region();
-    let mut rx = region();
-    let mut buffer = io::large_buffer();
-    let mut rows = space();
-    let written = script::run(&script[..length], &mut tx, &mut rx, &mut buffer, &mut rows);
-    print_rows(&rows, written);
-    print_stop(&script[..length], written / 56);
+// Where reading fails, the script ends.
+fn main(rt: HostRuntime) -> Result<(), AllocError> {
+    let mut script = Vec::with_capacity(rt.alloc(), MOST)?;
+    rt.reader().take(MOST as u64).read_to_end(&mut script).ok();
+    let script = script.as_slice();
+    let mut tx = [0; 16384];
+    let mut rx = [0; 16384];
+    let mut buffer = [0; 65536];
+    let mut rows = [0; MOST];
+    let written = script::run(script, &mut tx, &mut rx, &mut buffer, &mut rows);
+    for row in rows[..written].chunks_exact(ROW) {
+        println!(rt; "{}", Row(row)).ok();
+    }
+    print_stop(&rt, script, written / ROW);
+    Ok(())
 }

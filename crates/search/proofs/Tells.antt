@@ -6,14 +6,10 @@ use native.Mathlib.Nat.{zero-add}
 use native.Mathlib.Numerals.{add-one}
 use lib.ListN.{length}
 use borrow.Author.Tests.{eq-eqb, ne_eqb, le-leb, lt-leb}
+use Rattle.std.specs.Prelude.{Option, Some, None}
 use Rattle.blocks.specs.Search.{Search, nowhere, found_at}
 use Rattle.blocks.specs.Tables.{search_of}
 use Rattle.blocks.specs.OnePass.{OnePass}
-use Rattle.blocks.proofs.Search.{at-below}
-use Rattle.blocks.proofs.OnePass.{found_below}
-use Rattle.blocks.specs.declared.Entry.{Entry}
-use Rattle.blocks.specs.declared.Found.{Found}
-use Rattle.blocks.specs.declared.Found.TheVariants.{Nowhere, At}
 use Rattle.tables.specs.Compact.{table_of}
 use Rattle.search.specs.Told.{start_number, search_number}
 
@@ -35,12 +31,8 @@ module _ (s : List ℕ) (c n : ℕ) where
     unfolding search_number
     tells found k h = rw (eq-eqb (length s) 3136 l, le-leb c 256 m, le-leb 1 n o) (rw (← h.lowest, ← h.ends))
 
-    pub tells_nowhere : (r : Found) (k : ℕ) → OnePass c (table_of s 0) n (search_of r) k → r ≡ Nowhere → k ≡ search_number s c n
+    pub tells_nowhere : (r : Option ℕ) (k : ℕ) → OnePass c (table_of s 0) n (search_of r) k → r ≡ None → k ≡ search_number s c n
     tells_nowhere r k h e = sym (zero-add k) ∙ tells nowhere k (rw e at h)
 
-    pub tells_start : (r : Found) (k i : ℕ) → OnePass c (table_of s 0) n (search_of r) k → r ≡ At i → 65536 * (i + 1) + k ≡ search_number s c n
+    pub tells_start : (r : Option ℕ) (k i : ℕ) → OnePass c (table_of s 0) n (search_of r) k → r ≡ Some i → 65536 * (i + 1) + k ≡ search_number s c n
     tells_start r k i h e = simp add-one (tells (found_at i) k (rw e at h))
-
--- a start is below the count
-pub start-below : (c : ℕ) (t : List Entry) (n k i : ℕ) (r : Found) → OnePass c t n (search_of r) k → r ≡ At i → i + n ≤ c
-start-below c t n k i r h e = at-below r n c i (found_below r c t n k h) e

@@ -4,17 +4,15 @@
 ghost use Rattle.std.specs.Prelude.{◌≡◌};
 ghost use Rattle.search.specs.Told.{search_number};
 
-use blocks::Found;
-
 // Searches the transmit table in the bytes of both for n free blocks, among the first `block_count`. The low 16 bits of the answer are the turns,
 // the others where the run starts, counted from 1, or 0. It is 0 where the bytes are not both tables, have not so many blocks, or n is 0.
 #[unsafe(no_mangle)]
 pub extern "C" fn petrelknob_search(both: &[u8], block_count: u32, n: u32) -> u32
     ensures { result ≡ search_number both.now block_count n }
 {
-    if both.len() != tables::BYTES {
+    let Some(both) = both.as_array() else {
         return 0;
-    }
+    };
     if region::MAX_BLOCKS < block_count {
         return 0;
     }
@@ -22,10 +20,9 @@ pub extern "C" fn petrelknob_search(both: &[u8], block_count: u32, n: u32) -> u3
         return 0;
     }
     let searched = tables::search(both, tables::SENT, block_count as u16, n as usize);
-    let found = searched.found;
     let turns = searched.turns as u32;
-    match found {
-        Found::Nowhere => turns,
-        Found::At(start) => 65536 * (start as u32 + 1) + turns,
+    match searched.found {
+        None => turns,
+        Some(start) => 65536 * (start as u32 + 1) + turns,
     }
 }

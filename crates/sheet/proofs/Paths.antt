@@ -1,21 +1,26 @@
 -- A path step by step, as the code follows it.
-use Prim.Native.Nat.{ℕ, suc, ◌+◌, ◌-◌, ◌≤◌, ◌<◌}
-use mathlib.Core.Bool.{true, ◌&&◌}
-use mathlib.Core.List.{List, ◌++◌, append_assoc}
+use Prim.Native.Nat.{ℕ, zero, suc, ◌+◌, ◌-◌, ◌≤◌, ◌<◌}
+use mathlib.Core.Bool.{Bool, ◌&&◌}
+use mathlib.Core.List.{List, [], ◌∷◌, ◌++◌, append_assoc}
 use mathlib.Core.Path.{◌≡◌, refl, sym, ap, ◌∙◌}
 use native.Mathlib.Numerals.{add-one}
 use native.Mathlib.Omega.{arith}
-use lib.ListN.{length, drop, get_or, length-append, drop_of_length-le}
+use lib.ListN.{length, take, drop, get_or, length-append, drop_of_length-le}
 use lib.Seq.{slice, length-slice, drop-cons, take-append_seam, drop-append_seam, take-length}
-use Rattle.sheet.specs.declared.Place.{Place}
-use Rattle.sheet.specs.declared.Place.TheVariants.{At, Nowhere}
+use Rattle.std.specs.Prelude.{Option, None}
+use Rattle.std.specs.List.{list_all}
+use Rattle.std.proofs.lemmas.Option.{none-some, same_Some}
+use Rattle.sheet.specs.declared.Span.{Span}
+use Rattle.sheet.proofs.Walks.{at}
 use Rattle.sheet.specs.Sheets.{Part, nowhere, part, is_group, find, onward, lead, place_of, through_groups}
 use Rattle.sheet.specs.Picks.{place_in}
 use Rattle.sheet.proofs.Steps.{slice_front, slice_rest}
 use Rattle.sheet.proofs.Places.{Within, find-within}
 
-pub Nowhere≢At : {b n : ℕ} → Nowhere ≡ At b n → ⊥
-Nowhere≢At e = let z : ◌≡◌ {A = ℕ} 0 1 = cc in absurd (omega arith)
+pub same_at : {b n c m : ℕ} → at b n ≡ at c m → (b ≡ c) × (n ≡ m)
+same_at e =
+    let z = same_Some _ _ e in
+    (ap (λ (x : Span). x.begin) z, ap (λ (x : Span). x.size) z)
 
 within_slice : (s : List ℕ) (b e c : ℕ) (v : List ℕ) → b ≤ e → e ≤ length s → Within b (slice b e s) c v →
     (c + length v ≤ e) × (slice c (c + length v) s ≡ v)
@@ -43,49 +48,43 @@ follow_begins s path =
     let z : 0 + length s ≡ length s = omega arith in
     record { inside = omega arith; tags = omega arith; rest = rw (z, take-length s) }
 
-pub follow_ends : (s path : List ℕ) (b n i : ℕ) → Followed s path b n i → length path ≤ i → place_in (place_of s path) ≡ At b n
+pub follow_ends : (s path : List ℕ) (b n i : ℕ) → Followed s path b n i → length path ≤ i → place_in (place_of s path) ≡ at b n
 unfolding lead
 follow_ends s path b n i f h =
     let z : b + n - b ≡ n = omega arith in
     sym (ap place_in f.rest) ∙ rw (drop_of_length-le path h, length-slice b (b + n) s f.inside, z)
 
 -- the next tag: r is what the code has found of it
-module _ (s path : List ℕ) (b n i : ℕ) (f : Followed s path b n i) (h : i < length path) (r : Place)
+module _ (s path : List ℕ) (b n i : ℕ) (f : Followed s path b n i) (h : i < length path) (r : Option Span)
     (er : r ≡ place_in (find (get_or path i 0) b 0 (slice b (b + n) s))) where
   step : onward (find (get_or path i 0) b 0 (slice b (b + n) s)) (lead (drop (i + 1) path)) ≡ place_of s path
   unfolding lead
   step = sym (rw (add-one i, drop-cons path i 0 h)) ∙ f.rest
 
-  pub follow_nowhere : r ≡ Nowhere → place_in (place_of s path) ≡ Nowhere
+  pub follow_nowhere : r ≡ None → place_in (place_of s path) ≡ None
   follow_nowhere q = go (find (get_or path i 0) b 0 (slice b (b + n) s)) (sym er ∙ q) step
     where
-      go : (x : Part) → place_in x ≡ Nowhere → onward x (lead (drop (i + 1) path)) ≡ place_of s path → place_in (place_of s path) ≡ Nowhere
+      go : (x : Part) → place_in x ≡ None → onward x (lead (drop (i + 1) path)) ≡ place_of s path → place_in (place_of s path) ≡ None
       go nowhere p e = rw (← e)
-      go (part c v) p e = absurd (Nowhere≢At (sym p))
+      go (part c v) p e = absurd (none-some _ (sym p))
 
-  pub follow_on : (c m : ℕ) → r ≡ At c m → Followed s path c m (i + 1)
+  pub follow_on : (c m : ℕ) → r ≡ at c m → Followed s path c m (i + 1)
   follow_on c m q = go (find (get_or path i 0) b 0 (slice b (b + n) s)) refl (sym er ∙ q) step
     where
-      go : (x : Part) → find (get_or path i 0) b 0 (slice b (b + n) s) ≡ x → place_in x ≡ At c m → onward x (lead (drop (i + 1) path)) ≡ place_of s path →
+      go : (x : Part) → find (get_or path i 0) b 0 (slice b (b + n) s) ≡ x → place_in x ≡ at c m → onward x (lead (drop (i + 1) path)) ≡ place_of s path →
           Followed s path c m (i + 1)
-      go nowhere ex p e = absurd (Nowhere≢At p)
+      go nowhere ex p e = absurd (none-some _ p)
       go (part b' v) ex p e =
-          let eb : b' ≡ c = cc in
-          let en : length v ≡ m = cc in
+          let q = same_at p in
           let w = within_slice s b (b + n) b' v (omega arith) f.inside (find-within (get_or path i 0) b (slice b (b + n) s) b' v ex) in
-          rw (← eb, ← en) (record { inside = omega (arith, w.0, f.inside); tags = omega arith; rest = rw w.1 e })
+          rw (← q.0, ← q.1) (record { inside = omega (arith, w.0, f.inside); tags = omega arith; rest = rw w.1 e })
 
 -- ---- which paths are in rule
 
-pub groups_on : (path : List ℕ) (i : ℕ) → i + 1 < length path →
-    through_groups (drop i path) ≡ (is_group (get_or path i 0) && through_groups (drop (i + 1) path))
+pub groups_all : (path : List ℕ) (n : ℕ) → suc n ≡ length path → list_all is_group (take n path) ≡ through_groups path
 unfolding through_groups
-groups_on path i h =
-    let j : i < length path = omega arith in
-    rw (drop-cons path i 0 j, add-one i, drop-cons path (suc i) 0 (omega arith))
-
-pub groups_end : (path : List ℕ) (i : ℕ) → i + 1 ≡ length path → through_groups (drop i path) ≡ true
-unfolding through_groups
-groups_end path i h =
-    let j : i < length path = omega arith in
-    rw (drop-cons path i 0 j, drop_of_length-le path {i = suc i} (omega arith))
+groups_all [] n h = absurd (omega arith)
+groups_all (t ∷ []) zero h = refl
+groups_all (t ∷ []) (suc n) h = absurd (omega arith)
+groups_all (t ∷ u ∷ us) zero h = absurd (omega arith)
+groups_all (t ∷ u ∷ us) (suc n) h = ap (λ (b : Bool). is_group t && b) (groups_all (u ∷ us) n (omega arith))

@@ -9,13 +9,15 @@ use lib.ListN.{length}
 use Rattle.wire.specs.Choice.{pick}
 use Rattle.sheet.specs.Sheets.{Part, nowhere, part, is_path, is_sheet, place_of}
 use Rattle.sheet.specs.Picks.{Outcome, refused, chosen, first, pick_of, place_in, outcome_of}
-use Rattle.sheet.specs.declared.Place.{Place}
-use Rattle.sheet.specs.declared.Place.TheVariants.{At, Nowhere}
+use Rattle.std.specs.Prelude.{Option, None, Ok}
+use Rattle.std.proofs.lemmas.Option.{none-some}
+use Rattle.sheet.specs.declared.Span.{Span}
+use Rattle.sheet.proofs.Walks.{at}
 use Rattle.sheet.specs.declared.Picked.TheVariants.{InHand, InIncoming}
 use Rattle.sheet.specs.Laws.{HandSetFirst, ChecksInOrder, RefusalsEmpty, GivenInside}
 use Rattle.sheet.proofs.Steps.{sheet_says}
 use Rattle.sheet.proofs.Places.{found_inside}
-use Rattle.sheet.proofs.Paths.{Nowhere≢At}
+use Rattle.sheet.proofs.Paths.{same_at}
 
 -- both sheets are judged before anything is looked up
 looked_up : (hand incoming path : List ℕ) → is_path path ≡ true → is_sheet hand ≡ true → is_sheet incoming ≡ true →
@@ -33,40 +35,38 @@ hand_set_first hand incoming path p h i =
 
 -- what the code has found in the two sheets
 module _ (hand incoming path : List ℕ) (p : is_path path ≡ true) (h : is_sheet hand ≡ true) (i : is_sheet incoming ≡ true) where
-  pub picked-by_hand : (r : Place) (b n : ℕ) → r ≡ place_in (place_of hand path) → r ≡ At b n → outcome_of (InHand b n) ≡ pick_of hand incoming path
+  pub picked-by_hand : (r : Option Span) (b n : ℕ) → r ≡ place_in (place_of hand path) → r ≡ at b n → outcome_of (Ok (InHand b n)) ≡ pick_of hand incoming path
   picked-by_hand r b n er q = sym (looked_up hand incoming path p h i ∙ go (place_of hand path) (place_of incoming path) (sym er ∙ q))
     where
-      go : (x y : Part) → place_in x ≡ At b n → first x y ≡ outcome_of (InHand b n)
+      go : (x y : Part) → place_in x ≡ at b n → first x y ≡ outcome_of (Ok (InHand b n))
       go (part c v) y e =
-          let ec : c ≡ b = cc in
-          let en : length v ≡ n = cc in
-          rw (ec, en)
-      go nowhere y e = absurd (Nowhere≢At e)
+          let q = same_at e in
+          rw (q.0, q.1)
+      go nowhere y e = absurd (none-some _ e)
 
-  module _ (r : Place) (er : r ≡ place_in (place_of hand path)) (q : r ≡ Nowhere) (r' : Place) (er' : r' ≡ place_in (place_of incoming path)) where
+  module _ (r : Option Span) (er : r ≡ place_in (place_of hand path)) (q : r ≡ None) (r' : Option Span) (er' : r' ≡ place_in (place_of incoming path)) where
     not_by_hand : place_of hand path ≡ nowhere
     not_by_hand = go (place_of hand path) (sym er ∙ q)
       where
-        go : (x : Part) → place_in x ≡ Nowhere → x ≡ nowhere
+        go : (x : Part) → place_in x ≡ None → x ≡ nowhere
         go nowhere e = refl
-        go (part c v) e = absurd (Nowhere≢At (sym e))
+        go (part c v) e = absurd (none-some _ (sym e))
 
-    pub picked-incoming : (b n : ℕ) → r' ≡ At b n → outcome_of (InIncoming b n) ≡ pick_of hand incoming path
+    pub picked-incoming : (b n : ℕ) → r' ≡ at b n → outcome_of (Ok (InIncoming b n)) ≡ pick_of hand incoming path
     picked-incoming b n q' = sym (looked_up hand incoming path p h i ∙ rw not_by_hand (go (place_of incoming path) (sym er' ∙ q')))
       where
-        go : (x : Part) → place_in x ≡ At b n → first nowhere x ≡ outcome_of (InIncoming b n)
+        go : (x : Part) → place_in x ≡ at b n → first nowhere x ≡ outcome_of (Ok (InIncoming b n))
         go (part c v) e =
-            let ec : c ≡ b = cc in
-            let en : length v ≡ n = cc in
-            rw (ec, en)
-        go nowhere e = absurd (Nowhere≢At e)
+            let q = same_at e in
+            rw (q.0, q.1)
+        go nowhere e = absurd (none-some _ e)
 
-    pub picked-nowhere : r' ≡ Nowhere → refused 30 ≡ pick_of hand incoming path
+    pub picked-nowhere : r' ≡ None → refused 30 ≡ pick_of hand incoming path
     picked-nowhere q' = sym (looked_up hand incoming path p h i ∙ rw not_by_hand (go (place_of incoming path) (sym er' ∙ q')))
       where
-        go : (x : Part) → place_in x ≡ Nowhere → first nowhere x ≡ refused 30
+        go : (x : Part) → place_in x ≡ None → first nowhere x ≡ refused 30
         go nowhere e = refl
-        go (part c v) e = absurd (Nowhere≢At (sym e))
+        go (part c v) e = absurd (none-some _ (sym e))
 
 pub checks_in_order : ChecksInOrder
 unfolding pick_of

@@ -12,7 +12,8 @@ use Rattle.wire.specs.Choice.{pick}
 use Rattle.wire.proofs.Choices.{and_false}
 use Rattle.sheet.specs.Sheets.{has, is_field, are_fields, is_list, nowhere, find}
 use Rattle.sheet.specs.Picks.{place_in}
-use Rattle.sheet.specs.declared.Place.TheVariants.{At}
+use Rattle.sheet.specs.declared.Span.{Span}
+use Rattle.std.specs.Prelude.{Option, Some}
 use Rattle.sheet.specs.Tags.{with_bit}
 use Rattle.sheet.proofs.Tags.{in_set, Holds, holds_more}
 use Rattle.sheet.proofs.Steps.{tag_at, size_at, field_ends, fields_step, skip_find, skip_past, slice_front, slice_rest, slice_none, slice_one, slice_field}
@@ -23,6 +24,10 @@ was_true r x e h = sym e ∙ not-false r h
 
 pub was_false : (r x : Bool) → r ≡ x → not r ≡ true → x ≡ false
 was_false r x e h = sym e ∙ not-true r h
+
+-- n bytes at b, as the code has them
+abbrev pub at : ℕ → ℕ → Option Span
+at b n = Some (record { begin = b; size = n })
 
 -- ---- a list
 
@@ -132,7 +137,7 @@ module _ (s : List ℕ) (t p e : ℕ) (k : e ≤ length s) where
         rw (slice_field s p e k h, ← en, lt-leb n (length (slice (p + 2) e s)) i, skip_past t (p + 2) n (slice (p + 2) e s) i)
         (pick_same (eqb (tag_at s p) t))
 
-    pub find-here : n ≤ e - (p + 2) → tag_at s p ≡ t → place_in (find t p 0 (slice p e s)) ≡ At (p + 2) n
+    pub find-here : n ≤ e - (p + 2) → tag_at s p ≡ t → place_in (find t p 0 (slice p e s)) ≡ at (p + 2) n
     unfolding find
     find-here l et =
         let i : n ≤ length (slice (p + 2) e s) = omega (arith, length-slice (p + 2) e s k) in

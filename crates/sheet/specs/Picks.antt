@@ -1,12 +1,12 @@
 -- The picker (docs/RULES.md, H).
-use Rattle.std.specs.Prelude.{ℕ, ◌+◌, Bool, true, false, List, length, take, drop}
+use Rattle.std.specs.Prelude.{ℕ, ◌+◌, Bool, true, false, List, length, take, drop, Option, None, Some, Result, Ok, Err}
 use Rattle.wire.specs.Choice.{pick}
 use Rattle.refusal.specs.Numbers.{number_of}
 use Rattle.sheet.specs.Sheets.{Part, nowhere, part, is_sheet, is_path, place_of}
-use Rattle.sheet.specs.declared.Place.{Place}
-use Rattle.sheet.specs.declared.Place.TheVariants.{At, Nowhere}
+use Rattle.refusal.specs.declared.Refusal.{Refusal}
+use Rattle.sheet.specs.declared.Span.{Span}
 use Rattle.sheet.specs.declared.Picked.{Picked}
-use Rattle.sheet.specs.declared.Picked.TheVariants.{InHand, InIncoming, Refused}
+use Rattle.sheet.specs.declared.Picked.TheVariants.{InHand, InIncoming}
 
 -- The answer: a number, 0 where the path is found, whether in the incoming sheet, and the part's begin and size in that sheet.
 pub record Outcome : Type 0 where
@@ -41,14 +41,14 @@ pick_of hand incoming path =
 
 -- ---- as the code has it
 
-abbrev pub place_in : Part → Place
-place_in nowhere = Nowhere
-place_in (part b v) = At b (length v)
+abbrev pub place_in : Part → Option Span
+place_in nowhere = None
+place_in (part b v) = Some (record { begin = b; size = length v })
 
-abbrev pub outcome_of : Picked → Outcome
-outcome_of (InHand b n) = record { number = 0; incoming = false; begin = b; size = n }
-outcome_of (InIncoming b n) = record { number = 0; incoming = true; begin = b; size = n }
-outcome_of (Refused x) = refused (number_of x)
+abbrev pub outcome_of : Result Picked Refusal → Outcome
+outcome_of (Ok (InHand b n)) = record { number = 0; incoming = false; begin = b; size = n }
+outcome_of (Ok (InIncoming b n)) = record { number = 0; incoming = true; begin = b; size = n }
+outcome_of (Err x) = refused (number_of x)
 
 -- of what belongs to the two sheets, the one that belongs to the answer's
 abbrev pub chosen {ℓ} : {A : Type ℓ} → Outcome → A → A → A

@@ -26,34 +26,13 @@ const FIRST_GROUP: usize = 128;
 pub enum Picked {
     InHand { begin: usize, size: usize },
     InIncoming { begin: usize, size: usize },
-    Refused(Refusal),
-}
-
-impl Picked {
-    // 0 where the path is found, else the refusal's number.
-    pub fn number(self) -> u32
-        ensures { result ≡ (outcome_of self).number }
-    {
-        match self {
-            Picked::InHand { .. } => 0,
-            Picked::InIncoming { .. } => 0,
-            Picked::Refused(x) => x.number(),
-        }
-    }
 }
 
 // Where a value lies in a sheet.
 #[derive(Clone, Copy)]
-enum Place {
-    At { begin: usize, size: usize },
-    Nowhere,
-}
-
-// The byte as a wider number.
-fn wide(x: u8) -> usize
-    ensures { (result ≡ x) × (result < 256) }
-{
-    x as usize
+struct Span {
+    begin: usize,
+    size: usize,
 }
 
 fn has_bit(word: u64, k: usize) -> bool
@@ -70,8 +49,8 @@ fn with_bit(word: u64, k: usize) -> u64
     word | (1 << k)
 }
 
-// Whether the bytes from `from` to e are a list of fields, with at most so many lists inside each other. It is walked once: a bit for each
-// tag says whether it was seen.
+// Whether the bytes from `from` to e are a list of fields, with at most so many lists inside each other. It is walked once, a `while`, since
+// each field says where the next begins; a bit for each tag says whether it was seen. The bits are words by hand: a set would take the heap.
 #[cycle(is_field_is_list)]
 fn is_list(s: &[u8], from: usize, e: usize, lists: u8) -> bool
     requires { (from ≤ e) × (e ≤ length s.now) }
@@ -86,8 +65,8 @@ fn is_list(s: &[u8], from: usize, e: usize, lists: u8) -> bool
         if e - p < 2 {
             return false;
         }
-        let tag = wide(s[p]);
-        let size = wide(s[p + 1]);
+        let tag = usize::from(s[p]);
+        let size = usize::from(s[p + 1]);
         let i = tag / 64;
         let word = seen[i];
         if has_bit(word, tag % 64) {
@@ -128,42 +107,38 @@ pub fn is_sheet(s: &[u8]) -> bool
     is_list(s, 0, s.len(), MOST_LISTS)
 }
 
-// The value of the first field from `from` to e that has the tag.
-fn find(s: &[u8], tag: u8, from: usize, e: usize) -> Place
+// The value of the first field from `from` to e that has the tag. A `while`, since each field says where the next begins.
+fn find(s: &[u8], tag: u8, from: usize, e: usize) -> Option<Span>
     requires { (from ≤ e) × (e ≤ length s.now) }
     ensures { result ≡ place_in (findRule tag from 0 (slice from e s.now)) }
 {
     let mut p = from;
     while 2 <= e - p {
         let begin = p + 2;
-        let size = wide(s[p + 1]);
+        let size = usize::from(s[p + 1]);
         if e - begin < size {
-            return Place::Nowhere;
+            return None;
         }
         if s[p] == tag {
-            return Place::At { begin, size };
+            return Some(Span { begin, size });
         }
         p = begin + size;
     }
-    Place::Nowhere
+    None
 }
 
 // Where a path leads in a sheet.
-fn lookup(s: &[u8], path: &[u8]) -> Place
+fn lookup(s: &[u8], path: &[u8]) -> Option<Span>
     ensures { result ≡ place_in (place_of s.now path.now) }
 {
-    let mut begin = 0;
-    let mut size = s.len();
-    let mut i = 0;
-    while i < path.len() {
-        let Place::At { begin: b, size: n } = find(s, path[i], begin, begin + size) else {
-            return Place::Nowhere;
-        };
-        begin = b;
-        size = n;
-        i += 1;
+    let mut at = Span {
+        begin: 0,
+        size: s.len(),
+    };
+    for &tag in path {
+        at = find(s, tag, at.begin, at.begin + at.size)?;
     }
-    Place::At { begin, size }
+    Some(at)
 }
 
 // Whether a path has one to five tags, all groups but the last.
@@ -171,42 +146,34 @@ fn is_path(path: &[u8]) -> bool
     ensures { result ≡ is_path path.now }
 {
     let n = path.len();
-    if n == 0 {
+    if n == 0 || MOST_TAGS < n {
         return false;
     }
-    if MOST_TAGS < n {
-        return false;
-    }
-    let mut i = 0;
-    while i < n - 1 {
-        if wide(path[i]) < FIRST_GROUP {
-            return false;
-        }
-        i += 1;
-    }
-    true
+    path[..n - 1]
+        .iter()
+        .all(|&tag| FIRST_GROUP <= usize::from(tag))
 }
 
 // Where the path's value lies: in the hand-set sheet if the path is there, else in the incoming one. Both are judged before.
-pub fn ask_pick(hand: &[u8], incoming: &[u8], path: &[u8]) -> Picked
+pub fn ask_pick(hand: &[u8], incoming: &[u8], path: &[u8]) -> Result<Picked, Refusal>
     ensures { outcome_of result ≡ pick_of hand.now incoming.now path.now }
 {
     if !is_path(path) {
-        return Picked::Refused(Refusal::BadPath);
+        return Err(Refusal::BadPath);
     }
     if !is_sheet(hand) {
-        return Picked::Refused(Refusal::BadHandSheet);
+        return Err(Refusal::BadHandSheet);
     }
     if !is_sheet(incoming) {
-        return Picked::Refused(Refusal::BadIncomingSheet);
+        return Err(Refusal::BadIncomingSheet);
     }
-    if let Place::At { begin, size } = lookup(hand, path) {
-        return Picked::InHand { begin, size };
+    if let Some(Span { begin, size }) = lookup(hand, path) {
+        return Ok(Picked::InHand { begin, size });
     }
-    if let Place::At { begin, size } = lookup(incoming, path) {
-        return Picked::InIncoming { begin, size };
+    match lookup(incoming, path) {
+        Some(Span { begin, size }) => Ok(Picked::InIncoming { begin, size }),
+        None => Err(Refusal::NotFound),
     }
-    Picked::Refused(Refusal::NotFound)
 }
 
 // The path's value, as part of the sheet in which it lies. On a refusal, whose number `ask_pick` has, the empty part of the hand-set sheet.
@@ -217,12 +184,12 @@ pub fn pick<'a>(hand: &'a [u8], incoming: &'a [u8], path: &[u8]) -> &'a [u8]
     ensures promises { Promises }
 {
     match ask_pick(hand, incoming, path) {
-        Picked::Refused(_) => &hand[0..0],
-        Picked::InHand { begin, size } => {
+        Err(_) => &hand[0..0],
+        Ok(Picked::InHand { begin, size }) => {
             let end = begin + size;
             &hand[begin..end]
         }
-        Picked::InIncoming { begin, size } => {
+        Ok(Picked::InIncoming { begin, size }) => {
             let end = begin + size;
             &incoming[begin..end]
         }

@@ -1,16 +1,18 @@
 -- Bits of a byte, and the bits of blocks in a list of bytes.
 use Prim.Native.Nat.{ℕ, zero, suc, ◌+◌, ◌-◌, ◌*◌, ◌/◌, ◌%◌, ◌^◌, ◌≤◌, ◌<◌}
 use mathlib.Core.Bool.{Bool, true, false, ◌&&◌}
-use mathlib.Core.Path.{◌≡◌, refl, sym, ap, ◌∙◌}
-use mathlib.Core.List.{List}
+use mathlib.Core.Path.{◌≡◌, refl, sym, ap, subst, ◌∙◌}
+use mathlib.Core.List.{List, ◌++◌}
 use native.Mathlib.Omega.{arith}
 use native.Mathlib.Nat.{suc-add, zero-add, pow-suc, suc-mul, zero-mul}
 use lib.Bits.{bit_and, bit_or, bit_xor, or_shr, or_mod, xor_shr, xor_mod, and_high}
 use lib.Dec.{leb, ltb, eqb}
 use lib.Pow.{shr-shr, pow_pos}
-use lib.ListN.{get_or, set, length, length-set}
+use lib.ListN.{get_or, set, length, take, drop, replicate, length-set, length-replicate, length-drop, get_or-append, get_or-replicate}
 use lib.Seq.{get_or-set_same, get_or-set_other}
 use borrow.Author.Tests.{le-leb, lt-leb, lt-ltb, le-ltb, eqb-true, eqb-false, leb-true, ltb-true, ltb-false}
+use borrow.Rule.Slice.PartMut.{put_mid, mid_of, post_of, same_len_mid}
+use Rattle.std.proofs.lemmas.List.{length-take-le, get_or-append_right, get_or-take, get_or-drop}
 use Rattle.wire.specs.Choice.{pick}
 use Rattle.wire.proofs.Choices.{both}
 use Rattle.tables.specs.Compact.{bit_of, bits_at, Kept, held_at, IsMask, IsPut, Marked, Cleared}
@@ -133,9 +135,6 @@ module _ (t : List ℕ) (v : Bool) (base i high m r : ℕ) (long : length t ≡ 
 
 -- ---- the bits kept of a byte, i the next block
 
-pub none_kept : (t : List ℕ) (base bits : ℕ) → Kept t base 0 bits
-none_kept t base bits = record { rest = λ l. absurd (omega arith) }
-
 pub kept_next : (t : List ℕ) (base i bits : ℕ) → bits ≡ bits_at t base i → Kept t base (i + 1) (bits / 2)
 kept_next t base i bits h = record { rest = rest }
   where
@@ -212,23 +211,36 @@ mark_next v base s i high m r t₀ t h long least o low a w k p =
     above : (n : ℕ) → 8 * (i / 8) + high ≤ n → held_at (set t (base + i / 8) r) base n ≡ held_at t₀ base n
     above n x = kept_above t v base i high m r long least low k p n x ∙ h.above n (omega arith)
 
--- ---- clearing from s on, i the next
+-- ---- clearing from s on, as far as e: what is put there is zeros
 
-pub clear_begins : (s : ℕ) (t : List ℕ) → Cleared s s t t
-clear_begins s t = record { inside = λ p a b. absurd (omega arith); below = λ p a. refl; above = λ p a. refl; long = refl }
+module _ (t ys : List ℕ) (s e : ℕ) (o : s ≤ e) (l : e ≤ length t) (h : ys ≡ replicate (length (mid_of s (e - s) t)) 0) where
+  part : length (mid_of s (e - s) t) ≡ e - s
+  part = length-take-le (e - s) (drop s t) (omega (arith, length-drop s t))
 
-pub clear_next : (s i : ℕ) (t₀ t : List ℕ) → Cleared s i t₀ t → s ≤ i → i < length t → Cleared s (i + 1) t₀ (set t i 0)
-clear_next s i t₀ t h o l =
-    record {
-      inside = inside;
-      below = λ p a. get_or-set_other t i p 0 0 (omega arith) ∙ h.below p a;
-      above = λ p a. get_or-set_other t i p 0 0 (omega arith) ∙ h.above p (omega arith);
-      long = length-set t i 0 ∙ h.long;
-    }
-  where
-    inside : (p : ℕ) → s ≤ p → p < i + 1 → get_or (set t i 0) p 0 ≡ 0
-    inside p a b = go (eqb p i) refl
-      where
-        go : (b : Bool) → eqb p i ≡ b → get_or (set t i 0) p 0 ≡ 0
-        go true e = rw (eqb-true p i e) (get_or-set_same t i 0 0 l)
-        go false e = let q = eqb-false p i e in get_or-set_other t i p 0 0 q ∙ h.inside p a (omega arith)
+  count : length ys ≡ e - s
+  count = ap length h ∙ length-replicate (length (mid_of s (e - s) t)) 0 ∙ part
+
+  first : length (take s t) ≡ s
+  first = length-take-le s t (omega arith)
+
+  all_cleared : Cleared s e t (put_mid s (e - s) t ys)
+  all_cleared =
+      record {
+        inside = λ p a b.
+            get_or-append_right (take s t) (ys ++ post_of s (e - s) t) s p 0 first a
+            ∙ get_or-append ys (post_of s (e - s) t) 0 (p - s) (omega (arith, count))
+            ∙ ap (λ (x : List ℕ). get_or x (p - s) 0) h
+            ∙ get_or-replicate (length (mid_of s (e - s) t)) (p - s) 0 0 (omega (arith, part));
+        below = λ p a. get_or-append (take s t) (ys ++ post_of s (e - s) t) 0 p (omega (arith, first)) ∙ get_or-take s t p 0 a;
+        above = λ p a.
+            let q : s + (e - s + (p - s - (e - s))) ≡ p = omega arith in
+            get_or-append_right (take s t) (ys ++ post_of s (e - s) t) s p 0 first (omega arith)
+            ∙ get_or-append_right ys (post_of s (e - s) t) (e - s) (p - s) 0 count (omega arith)
+            ∙ get_or-drop (e - s) (drop s t) (p - s - (e - s)) 0
+            ∙ get_or-drop s t (e - s + (p - s - (e - s))) 0
+            ∙ ap (λ (j : ℕ). get_or t j 0) q;
+        long = same_len_mid s (e - s) t ys (count ∙ sym part);
+      }
+
+  pub cleared : (f : ℕ) → e ≡ f → Cleared s f t (put_mid s (e - s) t ys)
+  cleared f q = subst (λ (x : ℕ). Cleared s x t (put_mid s (e - s) t ys)) q all_cleared

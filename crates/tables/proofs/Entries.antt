@@ -10,6 +10,8 @@ use lib.Dec.{eqb, ltb}
 use lib.ListN.{get_or, set, length, length-set, replicate, length-replicate, get_or-replicate}
 use lib.Seq.{get_or-set_same, get_or-set_other, ext_get_or}
 use borrow.Author.Tests.{ltb-true, ltb-false, eq-eqb, ne_eqb}
+use Rattle.std.specs.Int.{to_le_bytes}
+use mir.Syntax.{w32}
 use Rattle.wire.specs.Choice.{pick}
 use Rattle.blocks.specs.Tables.{free_entry, inside_entry, run_entry, entry, is_use, in_use, fill, freed, taken}
 use Rattle.blocks.specs.WellFormed.{block_kind, leading}
@@ -202,6 +204,10 @@ module _ (t : List ℕ) (base s a b c d e f : ℕ) where
 
     byte5 : get_or (stored t base s a b c d e f) (base + 1312 + s) 0 ≡ f
     byte5 = get_or-set_same t4 (base + 1312 + s) f 0 (simp length-set (omega arith))
+
+-- the bytes of a length below 2 ^ 24
+pub three_bytes : (k : ℕ) (bs : List ℕ) → k < 2 ^ 24 → bs ≡ to_le_bytes w32 k → (get_or bs 0 0 ≡ k % 256) × (get_or bs 1 0 ≡ k / 256 % 256) × (get_or bs 2 0 ≡ k / 65536)
+three_bytes k bs h e = (rw e (omega arith), rw e (omega arith), rw e (omega arith))
 
 -- the bytes of a run's start
 abbrev pub started : List ℕ → ℕ → Use → ℕ → ℕ → ℕ → ℕ → List ℕ

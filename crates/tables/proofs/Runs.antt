@@ -6,11 +6,11 @@ use mathlib.Core.List.{List, [], ◌∷◌}
 use native.Mathlib.Omega.{arith}
 use lib.Dec.{ltb}
 use lib.ListN.{length}
+use Rattle.std.specs.Bool.{then_some}
 use Rattle.wire.specs.Choice.{pick}
-use Rattle.wire.proofs.Choices.{pick_same}
-use Rattle.blocks.specs.Tables.{free_entry, entry, is_use, starts, starts_data, holds_length}
+use Rattle.blocks.specs.Tables.{free_entry, entry, is_use, starts, IsRun}
 use Rattle.blocks.specs.declared.Use.{Use}
-use Rattle.blocks.specs.declared.Use.TheVariants.{Free, ReceivedData}
+use Rattle.blocks.specs.declared.Use.TheVariants.{Free}
 use Rattle.blocks.specs.declared.Entry.{Entry}
 
 entry-beyond : (t : List Entry) (s : ℕ) → length t ≤ s → entry t s ≡ free_entry
@@ -26,8 +26,7 @@ none-starts false c = refl
 pub starts-beyond : (u : Use) (c : ℕ) (t : List Entry) (s : ℕ) → length t ≤ s → starts u c t s ≡ false
 starts-beyond u c t s h = rw (entry-beyond t s h) (none-starts (is_use u Free) (ltb s c))
 
-pub no_run : (c z : ℕ) (t : List Entry) (s : ℕ) → starts ReceivedData c t s ≡ false → starts_data c z t s ≡ false
-no_run c z t s h = rw h
-
-pub length_decides : (c z : ℕ) (t : List Entry) (s : ℕ) (b : Bool) → starts ReceivedData c t s ≡ true → b ≡ holds_length z (entry t s) → starts_data c z t s ≡ b
-length_decides c z t s b h k = rw (h, ← k) (pick_same b)
+-- what is read of a start tells whether a run is there
+pub run_found : (t : List Entry) (s : ℕ) (x : Entry) (b d : Bool) → x ≡ entry t s → d ≡ b → IsRun (then_some b x) t s d
+run_found t s x true d e h = (e, h)
+run_found t s x false d e h = h

@@ -1,5 +1,6 @@
 -- What is answered at each check of an opening, by what the code has asked so far.
-use Prim.Native.Nat.{ℕ, ◌-◌, ◌≤◌, ◌<◌}
+use Rattle.std.specs.Prelude.{Result, Ok, Err}
+use Prim.Native.Nat.{ℕ, ◌≤◌, ◌<◌}
 use mathlib.Core.Bool.{true, false, ◌||◌}
 use mathlib.Core.Path.{◌≡◌, sym, ap, ◌∙◌}
 use lib.Dec.{leb}
@@ -10,38 +11,24 @@ use Rattle.refusal.specs.declared.Refusal.{Refusal}
 use Rattle.refusal.proofs.Positive.{number_positive}
 use Rattle.region.specs.Layout.{outcome_of, plain}
 use Rattle.region.specs.declared.RegionLayout.{RegionLayout}
-use Rattle.region.specs.declared.LayoutAnswer.{LayoutAnswer}
-use Rattle.region.specs.declared.LayoutAnswer.TheVariants.{Accepted, Refused}
 use Rattle.region.proofs.PlainLayouts.{accepted_plain}
 use Rattle.unit.specs.Opening.{Opened, region, open_number, fresh, fresh_of, closed_with, opening}
 use Rattle.unit.specs.Answers.{placed_number, PlacedAs}
 use Rattle.unit.specs.declared.Bounds.{Bounds}
 use Rattle.unit.specs.declared.Opening.{Opening}
 use Rattle.unit.specs.declared.Region.{Region}
-use Rattle.unit.specs.declared.Placed.{Placed}
-use Rattle.unit.specs.declared.Placed.TheVariants.{At}
 
 -- ---- one region, by what the code's layout answered
 
-module _ (b : Bounds) (k : ℕ) (a : LayoutAnswer) (h : outcome_of a ≡ plain b.begin b.end k) where
-  pub place-refused : (x : Refusal) → a ≡ Refused x → number_of x ≡ (plain b.begin b.end k).number
-  place-refused x q = rw (← h, q)
+module _ (b : Bounds) (k : ℕ) (a : Result RegionLayout Refusal) (h : outcome_of a ≡ plain b.begin b.end k) (y : RegionLayout) (q : a ≡ Ok y) where
+  is : plain b.begin b.end k ≡ outcome_of (Ok y)
+  is = sym h ∙ ap outcome_of q
 
-  module _ (y : RegionLayout) (q : a ≡ Accepted y) where
-    is : plain b.begin b.end k ≡ outcome_of (Accepted y)
-    is = sym h ∙ ap outcome_of q
+  pub some_bytes : b.begin < b.end
+  some_bytes = (accepted_plain b.begin b.end k (ap (λ o. o.number) is)).in_rule.bounds
 
-    pub some_bytes : b.begin < b.end
-    some_bytes = (accepted_plain b.begin b.end k (ap (λ o. o.number) is)).in_rule.bounds
-
-    pub ring_inside : b.begin ≤ y.begin
-    ring_inside = rw is at (accepted_plain b.begin b.end k (ap (λ o. o.number) is)).begins
-
-    pub place-accepted : 0 ≡ (plain b.begin b.end k).number
-    place-accepted = rw is
-
-    pub place_is : ◌≡◌ {A = Region} (record { length = b.end - b.begin; ring_offset = y.begin - b.begin; data_length = y.data_length }) (region b k)
-    place_is = rw is
+  pub ring_inside : b.begin ≤ y.begin
+  ring_inside = rw is at (accepted_plain b.begin b.end k (ap (λ o. o.number) is)).begins
 
 -- ---- both regions
 
@@ -53,23 +40,23 @@ closed_by : (o : Opening) (x : Refusal) → open_number o ≡ number_of x → cl
 unfolding opening
 closed_by o x e = rw e (sym (passed-refused (number_of x) (record { number = 0; unit = fresh_of o }) closed_with (number_positive x)))
 
-module _ (o : Opening) (a : Placed) (h : placed_number a ≡ (plain o.tx.begin o.tx.end o.alignment).number) where
-  tx-number : (x : Refusal) → a ≡ Placed.Refused x → open_number o ≡ number_of x
+module _ (o : Opening) (a : Result Region Refusal) (h : placed_number a ≡ (plain o.tx.begin o.tx.end o.alignment).number) where
+  tx-number : (x : Refusal) → a ≡ Err x → open_number o ≡ number_of x
   unfolding open_number
   tx-number x q = rw (← h, q) (passed-refused (number_of x) (passed (plain o.rx.begin o.rx.end o.alignment).number (apart o) (λ n. n)) (λ n. n) (number_positive x))
 
-  pub tx-refused : (x : Refusal) → a ≡ Placed.Refused x → closed_with (number_of x) ≡ opening o
+  pub tx-refused : (x : Refusal) → a ≡ Err x → closed_with (number_of x) ≡ opening o
   tx-refused x q = closed_by o x (tx-number x q)
 
-  module _ (t : Region) (q : a ≡ At t) (b : Placed) (i : placed_number b ≡ (plain o.rx.begin o.rx.end o.alignment).number) where
-    rx-number : (x : Refusal) → b ≡ Placed.Refused x → open_number o ≡ number_of x
+  module _ (t : Region) (q : a ≡ Ok t) (b : Result Region Refusal) (i : placed_number b ≡ (plain o.rx.begin o.rx.end o.alignment).number) where
+    rx-number : (x : Refusal) → b ≡ Err x → open_number o ≡ number_of x
     unfolding open_number
     rx-number x p = rw (← h, q, ← i, p) (passed-refused (number_of x) (apart o) (λ n. n) (number_positive x))
 
-    pub rx-refused : (x : Refusal) → b ≡ Placed.Refused x → closed_with (number_of x) ≡ opening o
+    pub rx-refused : (x : Refusal) → b ≡ Err x → closed_with (number_of x) ≡ opening o
     rx-refused x p = closed_by o x (rx-number x p)
 
-    module _ (r : Region) (p : b ≡ At r) where
+    module _ (r : Region) (p : b ≡ Ok r) where
       pub overlap : (leb o.tx.end o.rx.begin || leb o.rx.end o.tx.begin) ≡ false → closed_with 5 ≡ opening o
       unfolding opening open_number
       overlap z = rw (← h, q, ← i, p, z)

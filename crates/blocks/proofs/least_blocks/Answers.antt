@@ -1,7 +1,6 @@
-use mathlib.Core.Path.{refl}
-use Rattle.blocks.specs.Tables.{blocks_for}
+use mathlib.Core.Path.{◌∙◌}
+use Rattle.blocks.proofs.LeastBlocks.{rounded_up}
 use Rattle.blocks.proofs.least_blocks.Goals as goal
 
 pub returns : goal.returns
-unfolding blocks_for
-returns c = refl
+returns c = c.div_ceil.ensures ∙ rounded_up _ _ c.requires

@@ -21,7 +21,7 @@ returns-then-not-is_open c =
     λ ps bs. reserve_6 a.n a.t.now a.k ps bs (sym c.is_open.ensures ∙ c.if-not-is_open.true)
 
 pub fit-requires : goal.fit-requires
-fit-requires c = (omega (arith, (says (goal.at.fit-requires c).Else-not-is_open).tx.size), (says (goal.at.fit-requires c).Else-not-is_open).tx.few, c.requires)
+fit-requires c = (omega (arith, (says (goal.at.fit-requires c).Else-not-is_open).tx.size), (says (goal.at.fit-requires c).Else-not-is_open).tx.few)
 
 pub returns : goal.returns
 returns c =

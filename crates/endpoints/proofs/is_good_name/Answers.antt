@@ -1,28 +1,23 @@
-use native.Mathlib.Omega.{arith}
-use Rattle.endpoints.proofs.GoodNames.{none_yet, none_more, too_short, too_long, has-zero, is_good}
-use borrow.Author.Rules.{rules}
+use Prim.Native.Nat.{◌≤◌, ◌<◌}
+use lib.Dec.{eqb}
+use lib.ListN.{length}
+use Rattle.std.proofs.Common.{rules, tests}
+use Rattle.std.proofs.lemmas.Iterator.{YieldsList-from_slice}
+use Rattle.std.proofs.lemmas.Iterator.Search.{any_from_yields_List}
+use Rattle.endpoints.proofs.GoodNames.{too_short, too_long, in_limits}
 use Rattle.endpoints.proofs.is_good_name.Goals as goal
+use Rattle.endpoints.proofs.is_good_name.Goals.{then-is_empty-via-then-is_empty, then-is_empty-via-else-is_empty+then-longest-name}
 
-pub returns-then-n-lt1 : goal.returns-then-n-lt1
-returns-then-n-lt1 c = too_short _ _ c.if-n-lt1.true
-
-pub returns-then-longest-n : goal.returns-then-longest-n
-returns-then-longest-n c = too_long _ _ (omega (arith, c.if-n-lt1.false)) c.if-longest-n.true
-
-pub loop-i-init : goal.loop-i-init
-loop-i-init c = (none_yet _, search rules, search rules)
-
-pub returns-then-name-i-eq0 : goal.returns-then-name-i-eq0
-returns-then-name-i-eq0 c =
-    let l = c.loop-i in
-    has-zero _ _ (omega (arith, c.if-n-lt1.false)) (omega (arith, c.if-longest-n.false)) l.invariant.0 c.loop-i-test.true c.if-name-i-eq0.true
-
-pub loop-i-preserved : goal.loop-i-preserved
-loop-i-preserved c =
-    let l = c.loop-i in
-    (none_more l.invariant.0 c.loop-i-test.true c.if-name-i-eq0.false, search rules, search rules)
+pub returns-then-is_empty : goal.returns-then-is_empty
+returns-then-is_empty c =
+    let a = c.args in
+    elim c.then-is_empty.branch [
+      | then-is_empty-via-then-is_empty w ↦ let l : length a.name.now < 1 = search rules in too_short a.longest a.name.now l
+      | then-is_empty-via-else-is_empty+then-longest-name w ↦ let l : 1 ≤ length a.name.now = search rules in too_long a.longest a.name.now l w.if-longest-name.true
+    ]
 
 pub returns : goal.returns
 returns c =
-    let l = c.loop-i in
-    is_good _ _ (omega (arith, c.if-n-lt1.false)) (omega (arith, c.if-longest-n.false)) l.invariant.0 c.loop-i-test.false
+    let a = c.args in
+    let l : 1 ≤ length a.name.now = search rules in
+    in_limits a.longest a.name.now l _ c.if-longest-name.false (any_from_yields_List (λ b. eqb b 0) _ _ _ c.any.ensures.ran (YieldsList-from_slice a.name.now cc) (λ x b q k. search (rules, tests)))

@@ -4,7 +4,4 @@ use Rattle.endpoints.specs.Endpoints.{unused_from}
 use Rattle.endpoints.proofs.unused_address.Given as goal
 
 abbrev pub invariant-loop-a : goal.invariant-loop-a
-invariant-loop-a l = (unused_from 8 0 l.endpoints ≡ unused_from (8 - l.a) l.a l.endpoints) × (l.a ≤ 8)
-
-abbrev pub decreases-loop-a : goal.decreases-loop-a
-decreases-loop-a l = 8 - l.a
+invariant-loop-a l = (unused_from 8 0 l.endpoints ≡ unused_from (8 - l.a-counter) l.a-counter l.endpoints) × (l.a-counter ≤ 8)

@@ -6,4 +6,4 @@ use Rattle.icmsg.proofs.put.Goals as goal
 pub returns : goal.returns
 unfolding behind push_writes
 returns c =
-    record { index = rw (← c.packet_length.ensures.0, ← c.moved-next.ensures.0); region = rw (c.write_u32.ensures, c.put_packet.ensures, wrote-append, ← c.packet_length.ensures.0, ← c.moved-next.ensures.0) }
+    record { packet = rw (← c.packet_length.ensures.0, ← c.moved-next.ensures.0); region = rw (c.write_u32.ensures, c.put_packet.ensures, wrote-append, ← c.packet_length.ensures.0, ← c.moved-next.ensures.0) }

@@ -1,30 +1,39 @@
-use mathlib.Core.Bool.{true}
-use mathlib.Core.Path.{◌≡◌, refl, sym, ◌∙◌}
+use mathlib.Core.Path.{refl}
 use native.Mathlib.Omega.{arith}
 use lib.ListN.{length}
 use Rattle.wire.specs.Bytes.{wrote}
-use Rattle.icmsg.specs.Ring.{is_sound}
-use Rattle.icmsg.proofs.Checks.{sound_says}
+use Rattle.icmsg.proofs.Checks.{sound_says, ring_passed, ring_refused, refused_at}
 use Rattle.icmsg.proofs.Pulls.{whole-fits, receive_6, receive_past_6}
 use Rattle.icmsg.proofs.receive.Goals as goal
-use Rattle.icmsg.proofs.receive.Goals.{Else-not-is_sound}
 
-sound : (c : Else-not-is_sound) → is_sound (length c.args.region.now) c.args.ring c.args.own ≡ true
-sound c = sym c.is_sound.ensures ∙ c.if-not-is_sound.false
-
-pub returns-then-not-is_sound : goal.returns-then-not-is_sound
+pub returns-in_err-check_ring : goal.returns-in_err-check_ring
 unfolding wrote
-returns-then-not-is_sound c = rw (receive_6 _ _ _ _ _ (sym c.is_sound.ensures ∙ c.if-not-is_sound.true)) (record { answer = refl; region = refl; buffer = refl })
+returns-in_err-check_ring c =
+    let h = ring_refused _ _ c.check_ring.ensures _ c.in_err-check_ring.was in
+    rw (receive_6 _ _ _ _ _ h.0, ← h.1) (record { answer = refused_at _ _ c.from_residual.ensures.1; region = refl; buffer = refl })
 
 pub look-requires : goal.look-requires
-look-requires c = sound_says _ _ _ (sound (goal.at.look-requires c).Else-not-is_sound)
+look-requires c = sound_says _ _ _ (ring_passed _ _ c.check_ring.ensures c.in_ok-check_ring.was)
+
+pub returns-in_err-look : goal.returns-in_err-look
+unfolding wrote
+returns-in_err-look c =
+    rw (receive_past_6 _ _ _ _ _ (ring_passed _ _ c.check_ring.ensures c.in_ok-check_ring.was), ← c.look.ensures, c.in_err-look.was)
+    (record { answer = refused_at _ _ c.from_residual-in_err-look.ensures.1; region = refl; buffer = refl })
+
+pub returns-in_err-next : goal.returns-in_err-next
+unfolding wrote
+returns-in_err-next c =
+    rw (receive_past_6 _ _ _ _ _ (ring_passed _ _ c.check_ring.ensures c.in_ok-check_ring.was), ← c.look.ensures, c.in_ok-look.was, ← c.whole.ensures, c.in_err-next.was)
+    (record { answer = refused_at _ _ c.from_residual-in_err-next.ensures.1; region = refl; buffer = refl })
 
 pub take_found-requires : goal.take_found-requires
 take_found-requires c =
     let a = c.args in
-    let o = sound_says _ _ _ (sound (goal.at.take_found-requires c).Else-not-is_sound) in
-    record { sound = o; found_fits = rw (c.whole-next.ensures, c.look.ensures) (whole-fits a.ring a.own (length a.buffer.now) a.region.now (omega (arith, o.below))) }
+    let o = sound_says _ _ _ (ring_passed _ _ c.check_ring.ensures c.in_ok-check_ring.was) in
+    record { sound = o; found_fits = rw (← c.look.ensures, c.in_ok-look.was, ← c.whole.ensures, c.in_ok-next.was) at (whole-fits a.ring a.own (length a.buffer.now) a.region.now (omega (arith, o.below))) }
 
 pub returns : goal.returns
 returns c =
-    rw (receive_past_6 _ _ _ _ _ (sound (goal.at.returns c).Else-not-is_sound), ← c.look.ensures, ← c.whole-next.ensures) (record { answer = c.take_found.ensures.answer; region = c.take_found.ensures.region; buffer = c.take_found.ensures.buffer })
+    rw (receive_past_6 _ _ _ _ _ (ring_passed _ _ c.check_ring.ensures c.in_ok-check_ring.was), ← c.look.ensures, c.in_ok-look.was, ← c.whole.ensures, c.in_ok-next.was)
+    (record { answer = c.take_found.ensures.answer; region = c.take_found.ensures.region; buffer = c.take_found.ensures.buffer })

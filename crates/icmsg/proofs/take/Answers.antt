@@ -6,4 +6,4 @@ use Rattle.icmsg.proofs.take.Goals as goal
 pub returns : goal.returns
 unfolding behind read_to
 returns c =
-    record { index = rw (← c.packet_length.ensures.0, ← c.moved-next.ensures.0); region = rw (c.write_u32.ensures, ← c.packet_length.ensures.0, ← c.moved-next.ensures.0); buffer = rw (c.take.ensures, c.moved.ensures.0, wrapped_mod, ← c.least-n.ensures.0) }
+    record { packet = rw (← c.packet_length.ensures.0, ← c.moved-next.ensures.0); region = rw (c.write_u32.ensures, ← c.packet_length.ensures.0, ← c.moved-next.ensures.0); buffer = rw (c.take.ensures, c.moved.ensures.0, wrapped_mod, c.min-n.ensures) }

@@ -1,24 +1,14 @@
-use native.Mathlib.Omega.{arith}
-use Rattle.panel.proofs.Opening.{layout-refused, lies-there, wrong_slice, whole_slice, ring_opened}
+use Rattle.std.proofs.lemmas.Result.{err_from_is_err_and}
+use Rattle.panel.proofs.Opening.{layout-refused, wrong_slice, whole_slice}
 use Rattle.panel.proofs.open_ring.Goals as goal
 
-pub overflow_sub-end : goal.overflow_sub-end
-overflow_sub-end c =
-    let h = lies-there c.args.layout c.args.begin c.args.end _ c.in-Accepted.is c.requires in
-    omega (arith, h.0)
+pub returns-in_err-y-clause-number : goal.returns-in_err-y-clause-number
+returns-in_err-y-clause-number c =
+    let p = err_from_is_err_and c.from_residual.result c.from_residual.ensures.1 in
+    rw (p.1, p.2) (layout-refused _ _ _ _ _ c.in_err-y.was)
 
-pub overflow_sub-result : goal.overflow_sub-result
-overflow_sub-result c =
-    let h = lies-there c.args.layout c.args.begin c.args.end _ c.in-Accepted.is c.requires in
-    omega (arith, h.1)
+pub returns-then-n-end-clause-number : goal.returns-then-n-end-clause-number
+returns-then-n-end-clause-number c = wrong_slice _ _ _ _ c.in_ok-y.was _ c.if-n-end.true
 
-pub returns-in-Refused : goal.returns-in-Refused
-returns-in-Refused c = record { number = layout-refused _ _ _ _ _ c.in-Refused.is; ring = tt }
-
-pub returns-then-n-end : goal.returns-then-n-end
-returns-then-n-end c =
-    let s = c.args in
-    record { number = whole_slice _ _ _ _ c.in-Accepted.is _ c.if-n-end.true; ring = ring_opened s.layout s.begin s.end _ c.in-Accepted.is s.alignment }
-
-pub returns-else-n-end : goal.returns-else-n-end
-returns-else-n-end c = record { number = wrong_slice _ _ _ _ c.in-Accepted.is _ c.if-n-end.false; ring = tt }
+pub returns-clause-number : goal.returns-clause-number
+returns-clause-number c = whole_slice _ _ _ _ c.in_ok-y.was _ c.if-n-end.false

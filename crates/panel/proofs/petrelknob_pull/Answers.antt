@@ -12,4 +12,4 @@ pub returns : goal.returns
 unfolding pull_call
 returns c =
     let a = c.args in
-    rw (← c.layout-y.ensures, ← call_is c.open_ring-opened.result _ _ (λ g. answer (pull_rule (length a.region.now) g a.own (length a.buffer.now)) a.region.now) c.open_ring-opened.ensures.number c.open_ring-opened.ensures.ring) (record { number = c.pull_on.ensures.number; region = c.pull_on.ensures.region; buffer = c.pull_on.ensures.buffer; numbers = c.pull_on.ensures.numbers })
+    rw (← c.layout-y.ensures, ← call_is c.open_ring-opened.result _ _ (λ g. answer (pull_rule (length a.region.now) g a.own (length a.buffer.now)) a.region.now) c.open_ring-opened.ensures.number c.open_ring-opened.ensures.ring) (record { number = rw (← c.pull_on-a.ensures.answer) c.give.ensures.number; region = c.pull_on-a.ensures.region; buffer = c.pull_on-a.ensures.buffer; numbers = rw (← c.pull_on-a.ensures.answer) c.give.ensures.numbers })

@@ -16,5 +16,5 @@ pub returns : goal.returns
 unfolding push_call
 returns c =
     let a = c.args in
-    let enough = long_enough a.region.now (ring_in (outcome_of c.layout-y.result) a.begin a.alignment) a.own a.content.now c.least-k.result c.least-k.ensures.0 in
-    rw (← c.layout-y.ensures, ← enough, ← call_is c.open_ring-opened.result _ _ (λ g. push_rule a.region.now g a.own (take c.least-k.result a.content.now)) c.open_ring-opened.ensures.number c.open_ring-opened.ensures.ring) (record { number = c.push_on.ensures.number; region = c.push_on.ensures.region; numbers = c.push_on.ensures.numbers })
+    let enough = long_enough a.region.now (ring_in (outcome_of c.layout-y.result) a.begin a.alignment) a.own a.content.now c.min-k.result c.min-k.ensures in
+    rw (← c.layout-y.ensures, ← enough, ← call_is c.open_ring-opened.result _ _ (λ g. push_rule a.region.now g a.own (take c.min-k.result a.content.now)) c.open_ring-opened.ensures.number c.open_ring-opened.ensures.ring) (record { number = rw (← c.push_on-a.ensures.answer) c.give.ensures.number; region = c.push_on-a.ensures.region; numbers = rw (← c.push_on-a.ensures.answer) c.give.ensures.numbers })

@@ -11,4 +11,4 @@ pub returns : goal.returns
 unfolding start_call
 returns c =
     let a = c.args in
-    rw (← c.layout-y.ensures, ← call_is c.open_ring-opened.result _ _ (λ g. start_rule (length a.region.now) g) c.open_ring-opened.ensures.number c.open_ring-opened.ensures.ring) (record { number = c.start_on.ensures.number; region = c.start_on.ensures.region; numbers = c.start_on.ensures.numbers })
+    rw (← c.layout-y.ensures, ← call_is c.open_ring-opened.result _ _ (λ g. start_rule (length a.region.now) g) c.open_ring-opened.ensures.number c.open_ring-opened.ensures.ring) (record { number = rw (← c.start_on-a.ensures.answer) c.give.ensures.number; region = c.start_on-a.ensures.region; numbers = rw (← c.start_on-a.ensures.answer) c.give.ensures.numbers })

@@ -12,4 +12,4 @@ pub returns : goal.returns
 unfolding receive_call
 returns c =
     let a = c.args in
-    rw (← c.plain-y.ensures, ← call_is c.open_ring-opened.result _ _ (λ g. answer (receive_rule (length a.region.now) g a.own (length a.buffer.now)) a.region.now) c.open_ring-opened.ensures.number c.open_ring-opened.ensures.ring) (record { number = c.receive_on.ensures.number; region = c.receive_on.ensures.region; buffer = c.receive_on.ensures.buffer; numbers = c.receive_on.ensures.numbers })
+    rw (← c.plain-y.ensures, ← call_is c.open_ring-opened.result _ _ (λ g. answer (receive_rule (length a.region.now) g a.own (length a.buffer.now)) a.region.now) c.open_ring-opened.ensures.number c.open_ring-opened.ensures.ring) (record { number = rw (← c.receive_on-a.ensures.answer) c.give.ensures.number; region = c.receive_on-a.ensures.region; buffer = c.receive_on-a.ensures.buffer; numbers = rw (← c.receive_on-a.ensures.answer) c.give.ensures.numbers })

@@ -2,11 +2,10 @@ use mathlib.Core.Path.{refl}
 use Rattle.wire.specs.Bytes.{wrote}
 use Rattle.panel.proofs.pull_on.Goals as goal
 
-pub returns-in-Refused : goal.returns-in-Refused
+pub returns-in_err-ring-clause-region : goal.returns-in_err-ring-clause-region
 unfolding wrote
-returns-in-Refused c =
-    rw c.in-Refused.is (record { number = c.give.ensures.number; region = refl; buffer = refl; numbers = c.give.ensures.numbers })
+returns-in_err-ring-clause-region c = rw c.in_err-ring.was refl
 
-pub returns-in-Whole : goal.returns-in-Whole
-returns-in-Whole c =
-    rw (c.in-Whole.is, ← c.pull-a.ensures.answer) (record { number = c.give-in-Whole.ensures.number; region = c.pull-a.ensures.region; buffer = c.pull-a.ensures.buffer; numbers = c.give-in-Whole.ensures.numbers })
+pub returns-in_err-ring-clause-buffer : goal.returns-in_err-ring-clause-buffer
+unfolding wrote
+returns-in_err-ring-clause-buffer c = rw c.in_err-ring.was refl

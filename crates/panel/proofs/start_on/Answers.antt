@@ -2,11 +2,6 @@ use mathlib.Core.Path.{refl}
 use Rattle.wire.specs.Bytes.{wrote}
 use Rattle.panel.proofs.start_on.Goals as goal
 
-pub returns-in-Refused : goal.returns-in-Refused
+pub returns-in_err-ring-clause-region : goal.returns-in_err-ring-clause-region
 unfolding wrote
-returns-in-Refused c =
-    rw c.in-Refused.is (record { number = c.give.ensures.number; region = refl; numbers = c.give.ensures.numbers })
-
-pub returns-in-Whole : goal.returns-in-Whole
-returns-in-Whole c =
-    rw (c.in-Whole.is, ← c.start-a.ensures.answer) (record { number = c.give-in-Whole.ensures.number; region = c.start-a.ensures.region; numbers = c.give-in-Whole.ensures.numbers })
+returns-in_err-ring-clause-region c = rw c.in_err-ring.was refl

@@ -16,11 +16,11 @@ pub run_records-requires : goal.run_records-requires
 run_records-requires c =
     let k = c.open-left.auto in
     let long = c.if-out-lt-BYTES.false in
-    (script_begins _ _ (sym c.opening.ensures ∙ c.in-Opening.is), omega arith)
+    (script_begins _ _ (sym c.opening.ensures ∙ c.in-Some.is), omega arith)
 
 pub returns : goal.returns
 returns c =
     let a = c.args in
     let k = c.open-left.auto in
     let f = c.run_records.ensures.fits in
-    record { run = opening_row a.script.now a.tx.now a.rx.now a.buffer.now a.out.now _ _ c.open-left.result _ c.open-left.ensures.left c.open-left.ensures.out (sym c.opening.ensures ∙ c.in-Opening.is) c.if-out-lt-BYTES.false c.run_records.ensures.rows; fits = omega arith }
+    record { run = opening_row a.script.now a.tx.now a.rx.now a.buffer.now a.out.now _ _ c.open-left.result _ c.open-left.ensures.left c.open-left.ensures.out (sym c.opening.ensures ∙ c.in-Some.is) c.if-out-lt-BYTES.false c.run_records.ensures.rows; fits = omega arith }

@@ -11,5 +11,5 @@ write_numbers-requires c =
 
 pub returns : goal.returns
 returns c =
-    let h = c.step-stepped.ensures.answer in
-    record { left = record { end = ap (λ (d : Step). d.end) h; lent_tx = ap (λ (d : Step). d.lent_tx) h; lent_rx = ap (λ (d : Step). d.lent_rx) h }; memory = c.step-stepped.ensures.memory; out = rw (← h, ← c.row-row.ensures) c.write_numbers.ensures }
+    let h = c.step-reply.ensures.answer in
+    record { left = record { end = ap (λ (d : Step). d.end) h; lent_tx = ap (λ (d : Step). d.lent_tx) h; lent_rx = ap (λ (d : Step). d.lent_rx) h }; memory = c.step-reply.ensures.memory; out = rw (← h, ← c.row-row.ensures) c.write_numbers.ensures }

@@ -24,16 +24,16 @@ is_list-returns-then-e-p-lt2 t c = sym (walked_odd c.loop-p.invariant (omega ari
 pub is_list-returns-then-has_bit : goal.is_list-returns-then-has_bit
 is_list-returns-then-has_bit t c =
     sym
-    (walked_again c.loop-p.invariant (omega arith) (omega arith) _ _ c.wide-tag.ensures.0 c.wide-size.ensures.0 c.wide-tag.ensures.1 _ c.has_bit.ensures c.if-has_bit.true)
+    (walked_again c.loop-p.invariant (omega arith) (omega arith) _ _ c.from-tag.ensures c.from-size.ensures (omega arith) _ c.has_bit.ensures c.if-has_bit.true)
 
 pub is_list-returns-then-not-is_field : goal.is_list-returns-then-not-is_field
 is_list-returns-then-not-is_field t c =
     sym
-    (walked_broken c.loop-p.invariant (omega arith) (omega arith) _ _ c.wide-tag.ensures.0 c.wide-size.ensures.0 c.wide-tag.ensures.1 _ c.is_field.ensures (ap not c.if-not-is_field.true))
+    (walked_broken c.loop-p.invariant (omega arith) (omega arith) _ _ c.from-tag.ensures c.from-size.ensures (omega arith) _ c.is_field.ensures (ap not c.if-not-is_field.true))
 
 pub is_list-loop-p-preserved : goal.is_list-loop-p-preserved
 is_list-loop-p-preserved t c =
-    walked_on c.loop-p.invariant (omega arith) (omega arith) _ _ c.wide-tag.ensures.0 c.wide-size.ensures.0 c.wide-tag.ensures.1 _
+    walked_on c.loop-p.invariant (omega arith) (omega arith) _ _ c.from-tag.ensures c.from-size.ensures (omega arith) _
     c.is_field.ensures _ c.has_bit.ensures c.if-has_bit.false _ c.with_bit-more.ensures
     (ap not c.if-not-is_field.false)
 

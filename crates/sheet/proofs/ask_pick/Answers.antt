@@ -23,26 +23,26 @@ returns-then-not-is_sheet-2 c =
       was_false _ _ c.is_sheet-2.ensures (ap not c.if-not-is_sheet-2.true),
     )
 
-pub returns-in-At : goal.returns-in-At
-returns-in-At c =
+pub returns-in-Some : goal.returns-in-Some
+returns-in-Some c =
     picked-by_hand _ _ _
     (was_true _ _ c.is_path.ensures (ap not c.if-not-is_path.false))
     (was_true _ _ c.is_sheet.ensures (ap not c.if-not-is_sheet.false))
     (was_true _ _ c.is_sheet-2.ensures (ap not c.if-not-is_sheet-2.false))
-    _ _ _ c.lookup.ensures c.in-At.is
+    _ _ _ c.lookup.ensures c.in-Some.is
 
-pub returns-in-At-lookup : goal.returns-in-At-lookup
-returns-in-At-lookup c =
-    picked-incoming _ _ _
-    (was_true _ _ c.is_path.ensures (ap not c.if-not-is_path.false))
-    (was_true _ _ c.is_sheet.ensures (ap not c.if-not-is_sheet.false))
-    (was_true _ _ c.is_sheet-2.ensures (ap not c.if-not-is_sheet-2.false))
-    _ c.lookup.ensures c.in_default.is _ c.lookup-2.ensures _ _ c.in-At-lookup.is
-
-pub returns : goal.returns
-returns c =
+pub returns-in-None : goal.returns-in-None
+returns-in-None c =
     picked-nowhere _ _ _
     (was_true _ _ c.is_path.ensures (ap not c.if-not-is_path.false))
     (was_true _ _ c.is_sheet.ensures (ap not c.if-not-is_sheet.false))
     (was_true _ _ c.is_sheet-2.ensures (ap not c.if-not-is_sheet-2.false))
-    _ c.lookup.ensures c.in_default.is _ c.lookup-2.ensures c.in_default-lookup.is
+    _ c.lookup.ensures c.in_default.is _ c.lookup-2.ensures c.in-None.is
+
+pub returns-in-Some-lookup : goal.returns-in-Some-lookup
+returns-in-Some-lookup c =
+    picked-incoming _ _ _
+    (was_true _ _ c.is_path.ensures (ap not c.if-not-is_path.false))
+    (was_true _ _ c.is_sheet.ensures (ap not c.if-not-is_sheet.false))
+    (was_true _ _ c.is_sheet-2.ensures (ap not c.if-not-is_sheet-2.false))
+    _ c.lookup.ensures c.in_default.is _ c.lookup-2.ensures _ _ c.in-Some-lookup.is

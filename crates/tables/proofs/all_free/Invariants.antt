@@ -1,4 +1,4 @@
-use Prim.Native.Nat.{◌-◌, ◌≤◌}
+use Prim.Native.Nat.{◌-◌}
 use mathlib.Core.Bool.{true}
 use mathlib.Core.Path.{◌≡◌}
 use Rattle.blocks.specs.Tables.{all_free}
@@ -6,7 +6,4 @@ use Rattle.tables.specs.Compact.{Kept, table_of}
 use Rattle.tables.proofs.all_free.Given as goal
 
 abbrev pub invariant-loop-i : goal.invariant-loop-i
-invariant-loop-i l = (all_free (table_of l.t l.base) l.s (l.i - l.s) ≡ true) × Kept l.t l.base l.i l.bits × (l.s ≤ l.i) × (l.i ≤ l.stop) × (l.stop ≤ 256) × (l.base ≤ 1568)
-
-abbrev pub decreases-loop-i : goal.decreases-loop-i
-decreases-loop-i l = l.stop - l.i
+invariant-loop-i l = (all_free (table_of l.t l.base.at) l.s (l.i - l.s) ≡ true) × Kept l.t l.base.at l.i l.bits

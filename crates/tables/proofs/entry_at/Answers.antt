@@ -14,4 +14,4 @@ returns-then-state-eq0 c = rw (sym c.is_held.ensures ∙ c.if-not-is_held.false,
 pub returns : goal.returns
 unfolding entry_at start_entry
 returns c =
-    rw (sym c.is_held.ensures ∙ c.if-not-is_held.false, ne_eqb _ _ c.if-state-eq0.false, sym c.use_of-usage.ensures, c.wide.ensures.0, c.wide-2.ensures.0, c.wide-3.ensures.0, c.wide-4.ensures.0)
+    rw (sym c.is_held.ensures ∙ c.if-not-is_held.false, ne_eqb _ _ c.if-state-eq0.false, sym c.use_of-usage.ensures, c.from-count.ensures, c.from.ensures, c.from-2.ensures, c.from-3.ensures)

@@ -5,4 +5,4 @@ use Rattle.wire.proofs.read_u32.Goals as goal
 
 pub returns : goal.returns
 unfolding from_little_endian bytes
-returns c = simp add-zero (omega arith)
+returns c = simp add-zero (let e = c.from_le_bytes.ensures in omega arith)

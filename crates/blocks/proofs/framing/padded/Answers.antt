@@ -1,13 +1,10 @@
 use Rattle.wire.specs.Bytes.{straight}
-use mathlib.Core.Path.{◌∙◌}
-use native.Mathlib.Omega.{arith}
 use Rattle.wire.proofs.Positions.{length-bytes}
-use Rattle.blocks.proofs.Padding.{padded_by_writes}
-use borrow.Author.Rules.{rules}
+use Rattle.blocks.proofs.Padding.{range-bytes, padded_copy}
 use Rattle.blocks.proofs.framing.padded.Goals as goal
 
 pub returns : goal.returns
 returns c =
     let a = c.args in
-    let k = length-bytes a.s.now (straight a.p) a.n in
-    c.copy.ensures ∙ padded_by_writes _ 32 32 (omega (arith, c.requires.1)) (search rules)
+    let e = range-bytes a.s.now _ a.p a.n c.requires.0 c.copy_from_slice.ensures.after in
+    rw e (padded_copy _ a.n 32 (length-bytes a.s.now (straight a.p) a.n) c.requires.1)

@@ -9,4 +9,4 @@ pub returns : goal.returns
 unfolding bytes
 returns c =
     let a = c.args in
-    written_in_three a.tx.now _ _ _ a.p (length a.name.now + 1) a.name.now _ c.write_u32.ensures c.copy.ensures (bytes-all a.name.now) c.copy-2.ensures
+    written_in_three a.tx.now _ _ a.p (length a.name.now + 1) a.name.now _ c.write_u32.ensures c.copy.ensures (bytes-all a.name.now)

@@ -8,7 +8,7 @@ use Rattle.blocks.specs.Tables.{all_free, blocks_for}
 use Rattle.tables.specs.Compact.{table_of}
 use Rattle.icbmsg.specs.Arrivals.{size_at}
 use Rattle.checks.specs.Measuring.{are_lent}
-use Rattle.checks.proofs.Measuring.{Lent, lent_says, not_lent, bad_block, past_the_last, block_held, all_four, header-inside, rest-inside, need-inside}
+use Rattle.checks.proofs.Measuring.{Lent, lent_says, past_the_last, block_held, all_four, header-inside, need-inside}
 use Rattle.checks.proofs.arrivals.measure.Goals as goal
 use Rattle.checks.proofs.arrivals.measure.Goals.{After-all_free, After-least_blocks-n, After-read_u32-k, Else-block_count-s, Else-not-are_lent}
 
@@ -43,49 +43,30 @@ need c =
 free : (c : After-all_free) → let a = c.args in c.all_free.result ≡ all_free (table_of a.t.now 1568) a.b (blocks_for a.g.block_size c.read_u32-k.result)
 free c = let a = c.args in c.all_free.ensures ∙ ap (all_free (table_of a.t.now 1568) a.b) c.least_blocks-n.ensures
 
-pub returns-then-not-are_lent : goal.returns-then-not-are_lent
-returns-then-not-are_lent c =
+pub returns-then-block_count-s-2-clause-number : goal.returns-then-block_count-s-2-clause-number
+returns-then-block_count-s-2-clause-number c =
     let a = c.args in
-    record { number = not_lent (length a.rx.now) a.g (table_of a.t.now 1568) a.b (size_at a.g a.b a.rx.now) (sym c.are_lent.ensures ∙ c.if-not-are_lent.true); size = tt }
-
-pub returns-then-block_count-s : goal.returns-then-block_count-s
-returns-then-block_count-s c =
-    let a = c.args in
-    record { number = bad_block (length a.rx.now) a.g (table_of a.t.now 1568) a.b (size_at a.g a.b a.rx.now) (lent (goal.at.returns-then-block_count-s c).Else-not-are_lent) c.if-block_count-s.true; size = tt }
-
-pub overflow_mul-s : goal.overflow_mul-s
-overflow_mul-s c = omega (arith, header (goal.at.overflow_mul-s c).Else-block_count-s, (says (goal.at.overflow_mul-s c).Else-not-are_lent).bytes)
-
-pub overflow_add-g : goal.overflow_add-g
-overflow_add-g c = omega (arith, header (goal.at.overflow_add-g c).Else-block_count-s, (says (goal.at.overflow_add-g c).Else-not-are_lent).bytes)
-
-pub read_u32-k-requires : goal.read_u32-k-requires
-read_u32-k-requires c = header (goal.at.read_u32-k-requires c).Else-block_count-s
-
-pub overflow_mul-block_count : goal.overflow_mul-block_count
-overflow_mul-block_count c =
-    let a = c.args in
-    omega (arith, rest-inside (length a.rx.now) a.g a.b (says (goal.at.overflow_mul-block_count c).Else-not-are_lent), (says (goal.at.overflow_mul-block_count c).Else-not-are_lent).bytes)
-
-pub returns-then-block_count-s-2 : goal.returns-then-block_count-s-2
-returns-then-block_count-s-2 c =
-    let a = c.args in
-    record { number = rw (← (size (goal.at.returns-then-block_count-s-2 c).After-read_u32-k)) (past_the_last (length a.rx.now) a.g (table_of a.t.now 1568) a.b c.read_u32-k.result (lent (goal.at.returns-then-block_count-s-2 c).Else-not-are_lent) c.if-block_count-s.false c.if-block_count-s-2.true); size = tt }
-
-pub least_blocks-n-requires : goal.least_blocks-n-requires
-least_blocks-n-requires c = omega (arith, (says (goal.at.least_blocks-n-requires c).Else-not-are_lent).size)
+    let g = goal.at.returns-then-block_count-s-2-clause-number c in
+    rw (← (size g.After-read_u32-k)) (past_the_last (length a.rx.now) a.g (table_of a.t.now 1568) a.b c.read_u32-k.result (lent g.Else-not-are_lent) c.if-block_count-s.false c.if-block_count-s-2.true)
 
 pub all_free-requires : goal.all_free-requires
-all_free-requires c = (omega (arith, (need (goal.at.all_free-requires c).After-least_blocks-n).1, (says (goal.at.all_free-requires c).Else-not-are_lent).few), omega arith, c.requires)
+all_free-requires c = omega (arith, (need (goal.at.all_free-requires c).After-least_blocks-n).1, (says (goal.at.all_free-requires c).Else-not-are_lent).few)
 
-pub returns-then-all_free : goal.returns-then-all_free
-returns-then-all_free c =
+pub returns-then-not-all_free-clause-number : goal.returns-then-not-all_free-clause-number
+returns-then-not-all_free-clause-number c =
     let a = c.args in
-    let k = size (goal.at.returns-then-all_free c).After-read_u32-k in
-    let n = need (goal.at.returns-then-all_free c).After-least_blocks-n in
-    record { number = rw (← k) (all_four (length a.rx.now) a.g (table_of a.t.now 1568) a.b c.read_u32-k.result (lent (goal.at.returns-then-all_free c).Else-not-are_lent) c.if-block_count-s.false c.if-block_count-s-2.false (sym (free (goal.at.returns-then-all_free c).After-all_free) ∙ c.if-all_free.true)); size = (k, rw (← k) c.least_blocks-n.ensures, n.0, n.1, rw (← k) n.2) }
+    let g = goal.at.returns-then-not-all_free-clause-number c in
+    rw (← (size g.After-read_u32-k)) (block_held (length a.rx.now) a.g (table_of a.t.now 1568) a.b c.read_u32-k.result (lent g.Else-not-are_lent) c.if-block_count-s.false c.if-block_count-s-2.false (sym (free g.After-all_free) ∙ c.if-not-all_free.true))
 
-pub returns-else-all_free : goal.returns-else-all_free
-returns-else-all_free c =
+pub returns-clause-number : goal.returns-clause-number
+returns-clause-number c =
     let a = c.args in
-    record { number = rw (← (size (goal.at.returns-else-all_free c).After-read_u32-k)) (block_held (length a.rx.now) a.g (table_of a.t.now 1568) a.b c.read_u32-k.result (lent (goal.at.returns-else-all_free c).Else-not-are_lent) c.if-block_count-s.false c.if-block_count-s-2.false (sym (free (goal.at.returns-else-all_free c).After-all_free) ∙ c.if-all_free.false)); size = tt }
+    let g = goal.at.returns-clause-number c in
+    rw (← (size g.After-read_u32-k)) (all_four (length a.rx.now) a.g (table_of a.t.now 1568) a.b c.read_u32-k.result (lent g.Else-not-are_lent) c.if-block_count-s.false c.if-block_count-s-2.false (sym (free g.After-all_free) ∙ c.if-not-all_free.false))
+
+pub returns-clause-size : goal.returns-clause-size
+returns-clause-size c =
+    let g = goal.at.returns-clause-size c in
+    let k = size g.After-read_u32-k in
+    let n = need g.After-least_blocks-n in
+    (k, rw (← k) c.least_blocks-n.ensures, n.0, n.1, rw (← k) n.2)

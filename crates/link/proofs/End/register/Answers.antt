@@ -1,43 +1,43 @@
-use mathlib.Core.Path.{◌∙◌}
+use mathlib.Core.Path.{◌≡◌}
 use lib.ListN.{length}
-use Rattle.checks.specs.Parts.{joined}
+use Rattle.std.specs.Prelude.{Ok, Err}
+use Rattle.std.proofs.Common.{rules}
 use Rattle.checks.specs.Decisions.{PlaceAs}
-use Rattle.checks.specs.declared.registrations.Place.{Place}
+use Rattle.link.specs.Answers.{end_of}
+use Rattle.link.proofs.Clauses.{both_said}
 use Rattle.link.proofs.PushCalls.{before_ring}
-use Rattle.link.proofs.RegisterCalls.{refused-only, place-refused, place_at, whole_numbers, registers-first, registers_later}
-use borrow.Author.Rules.{rules}
+use Rattle.link.proofs.RegisterCalls.{place-refused, place_at, whole_numbers, registers-first, registers_later}
 use Rattle.link.proofs.End.register.Goals as goal
-use Rattle.link.proofs.End.register.Goals.{After-register-registering, In-At, Start}
+use Rattle.link.proofs.End.register.Goals.{In_ok-registering}
 
-at : (c : In-At) → PlaceAs (Place.At c.in-At.i) (joined c.args.numbers c.args.tables.now c.args.endpoints c.args.bindings) (length c.args.tx.now) c.args.name.now c.register-registering.result.name
-at c = place_at _ (joined c.args.numbers c.args.tables.now c.args.endpoints c.args.bindings) (length c.args.tx.now) c.args.name.now _ (c.register-registering.ensures c.args.tables.now c.args.bindings) _ c.in-At.is
+at : (c : In_ok-registering) → PlaceAs (Ok c.in_ok-registering.registering) (end_of c.args.self.now) (length c.args.tx.now) c.args.name.now
+at c = let e = c.args.self.now in place_at _ (end_of e) (length c.args.tx.now) c.args.name.now (c.register.ensures e.tables e.bindings) _ c.in_ok-registering.was
 
 pub initiate-requires : goal.initiate-requires
 initiate-requires c =
-    let p = at (goal.at.initiate-requires c).In-At in
-    let a = c.args in
-    let w = whole_numbers a.numbers a.tables.now a.endpoints a.bindings (length a.tx.now) p.1 in
-    (w.0, w.1, p.2, p.3, search rules)
+    let e = c.args.self.now in
+    let p = at (goal.at.initiate-requires c).In_ok-registering in
+    let w = whole_numbers e.numbers e.tables e.endpoints e.bindings (length c.args.tx.now) p.1 in
+    (w.0, w.1, p.2, p.3, p.4)
 
 pub follow-requires : goal.follow-requires
 follow-requires c =
-    let p = at (goal.at.follow-requires c).In-At in
-    let a = c.args in
-    ((whole_numbers a.numbers a.tables.now a.endpoints a.bindings (length a.tx.now) p.1).0, search rules)
+    let e = c.args.self.now in
+    let p = at (goal.at.follow-requires c).In_ok-registering in
+    ((whole_numbers e.numbers e.tables e.endpoints e.bindings (length c.args.tx.now) p.1).0, p.3, p.4)
 
-pub returns-in-Refused : goal.returns-in-Refused
-returns-in-Refused c =
-    let z = before_ring (joined c.args.numbers c.args.tables.now c.args.endpoints c.args.bindings) c.args.tx.now _ _ (place-refused _ (joined c.args.numbers c.args.tables.now c.args.endpoints c.args.bindings) (length c.args.tx.now) c.args.name.now _ (c.register-registering.ensures c.args.tables.now c.args.bindings) _ c.in-Refused.is) in
-    record { answer = refused-only _ c.args.numbers c.args.tables.now c.args.endpoints c.args.bindings _ c.refused.ensures ∙ z.0; tx = z.1 }
+pub returns-in_err-registering : goal.returns-in_err-registering
+returns-in_err-registering c =
+    let e = c.args.self.now in
+    let r : c.from_residual.result ≡ Err c.in_err-registering.field-0.0 = search rules in
+    rw r (both_said (before_ring (end_of e) c.args.tx.now _ _ (place-refused _ (end_of e) (length c.args.tx.now) c.args.name.now (c.register.ensures e.tables e.bindings) _ c.in_err-registering.was)))
 
-pub returns-then-numbers : goal.returns-then-numbers
-returns-then-numbers c =
-    let p = at (goal.at.returns-then-numbers c).In-At in
-    let all = registers-first (joined c.args.numbers c.args.tables.now c.args.endpoints c.args.bindings) (length c.args.tx.now) c.args.name.now _ p.0 c.if-numbers.true _ c.args.tx.now _ (c.initiate.ensures.answer c.args.bindings) (c.initiate.ensures.tx c.args.bindings) in
-    record { answer = all.0; tx = all.1 }
+pub returns-then-self : goal.returns-then-self
+returns-then-self c =
+    let p = at (goal.at.returns-then-self c).In_ok-registering in
+    both_said (registers-first (end_of c.args.self.now) (length c.args.tx.now) c.args.name.now _ p.0 c.if-self.true _ c.args.tx.now _ c.initiate.ensures.answer c.initiate.ensures.tx)
 
-pub returns-else-numbers : goal.returns-else-numbers
-returns-else-numbers c =
-    let p = at (goal.at.returns-else-numbers c).In-At in
-    let all = registers_later (joined c.args.numbers c.args.tables.now c.args.endpoints c.args.bindings) (length c.args.tx.now) c.args.name.now _ p.0 c.if-numbers.false _ c.args.tx.now _ (c.follow.ensures.answer c.args.endpoints c.args.name.now p.3) (c.follow.ensures.tx c.args.endpoints c.args.name.now p.3) in
-    record { answer = all.0; tx = all.1 }
+pub returns-else-self : goal.returns-else-self
+returns-else-self c =
+    let p = at (goal.at.returns-else-self c).In_ok-registering in
+    both_said (registers_later (end_of c.args.self.now) (length c.args.tx.now) c.args.name.now _ p.0 c.if-self.false _ c.args.tx.now _ c.follow.ensures.answer c.follow.ensures.tx)

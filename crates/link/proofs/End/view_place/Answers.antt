@@ -2,6 +2,8 @@ use mathlib.Core.Bool.{true}
 use mathlib.Core.List.{List, []}
 use mathlib.Core.Path.{◌≡◌, sym, ◌∙◌}
 use native.Mathlib.Omega.{arith}
+use Rattle.std.specs.Prelude.{Err}
+use Rattle.std.proofs.Common.{rules}
 use Rattle.blocks.specs.Tables.{entry, starts_data}
 use Rattle.endpoints.specs.declared.Endpoint.{Endpoint}
 use Rattle.endpoints.specs.declared.Binding.{Binding}
@@ -12,35 +14,36 @@ use Rattle.checks.proofs.OpenSays.{whole_is}
 use Rattle.checks.proofs.Runs.{run-refused, run-live, PartIn, view-part}
 use Rattle.link.proofs.MessageCalls.{view-refused, view-placed}
 use Rattle.link.proofs.End.view_place.Goals as goal
-use Rattle.link.proofs.End.view_place.Goals.{After-is_whole-whole, In-Live, Start}
+use Rattle.link.proofs.End.view_place.Goals.{After-is_whole-whole, In_ok-message}
 
-lent : (c : After-is_whole-whole) (ps : List Endpoint) (bs : List Binding) → let a = c.args in c.is_whole-whole.result ≡ whole ((joined c.args.numbers c.args.tables.now) ps bs) a.numbers.rx a.lent
-lent c ps bs = let a = c.args in whole_is ((joined c.args.numbers c.args.tables.now) ps bs) a.numbers.rx a.lent _ c.is_whole-whole.ensures
+lent : (c : After-is_whole-whole) (ps : List Endpoint) (bs : List Binding) → let e = c.args.self.now in c.is_whole-whole.result ≡ whole (joined e.numbers e.tables ps bs) e.numbers.rx c.args.lent
+lent c ps bs = let e = c.args.self.now in whole_is (joined e.numbers e.tables ps bs) e.numbers.rx c.args.lent _ c.is_whole-whole.ensures
 
-run : (c : In-Live) → let a = c.args in
-    (c.is_whole-whole.result ≡ true) × (starts_data a.numbers.rx.block_count a.numbers.rx.block_size (table_of a.tables.now 1568) a.start ≡ true) × (c.in-Live.x ≡ entry (table_of a.tables.now 1568) a.start)
-run c = run-live _ _ _ _ _ c.received.ensures _ c.in-Live.is
+run : (c : In_ok-message) → let e = c.args.self.now in
+    (c.is_whole-whole.result ≡ true) × (starts_data e.numbers.rx.block_count e.numbers.rx.block_size (table_of e.tables 1568) c.args.start ≡ true) × (c.in_ok-message.message ≡ entry (table_of e.tables 1568) c.args.start)
+run c = run-live _ _ _ _ _ c.received.ensures _ c.in_ok-message.was
 
-part : (c : In-Live) → let a = c.args in PartIn a.numbers.rx a.start c.in-Live.x.count a.lent
+part : (c : In_ok-message) → let e = c.args.self.now in PartIn e.numbers.rx c.args.start c.in_ok-message.message.count c.args.lent
 part c =
-    let lent : (ps : List Endpoint) (bs : List Binding) → let a = c.args in c.is_whole-whole.result ≡ whole ((joined c.args.numbers c.args.tables.now) ps bs) a.numbers.rx a.lent = λ ps bs. let a = c.args in whole_is ((joined c.args.numbers c.args.tables.now) ps bs) a.numbers.rx a.lent _ c.is_whole-whole.ensures in
-    let run : let a = c.args in
-    (c.is_whole-whole.result ≡ true) × (starts_data a.numbers.rx.block_count a.numbers.rx.block_size (table_of a.tables.now 1568) a.start ≡ true) × (c.in-Live.x ≡ entry (table_of a.tables.now 1568) a.start) = run-live _ _ _ _ _ c.received.ensures _ c.in-Live.is in
-    let r = run in rw r.2 (view-part ((joined c.args.numbers c.args.tables.now) [] []) c.args.lent c.args.start (sym (lent [] []) ∙ r.0) r.1).0
+    let e = joined c.args.self.now.numbers c.args.self.now.tables [] [] in
+    let w : c.is_whole-whole.result ≡ whole e c.args.self.now.numbers.rx c.args.lent = whole_is e c.args.self.now.numbers.rx c.args.lent _ c.is_whole-whole.ensures in
+    let r = run-live _ _ _ _ _ c.received.ensures _ c.in_ok-message.was in
+    rw r.2 (view-part e c.args.lent c.args.start (sym w ∙ r.0) r.1).0
 
 pub overflow_mul-result : goal.overflow_mul-result
-overflow_mul-result c = let p = part (goal.at.overflow_mul-result c).In-Live in omega (arith, p.product, p.most)
+overflow_mul-result c = let p = part (goal.at.overflow_mul-result c).In_ok-message in omega (arith, p.product, p.most)
 
 pub overflow_add-result : goal.overflow_add-result
-overflow_add-result c = let p = part (goal.at.overflow_add-result c).In-Live in omega (arith, p.inside, p.most)
+overflow_add-result c = let p = part (goal.at.overflow_add-result c).In_ok-message in omega (arith, p.inside, p.most)
 
-pub overflow_add-result-in-Live : goal.overflow_add-result-in-Live
-overflow_add-result-in-Live c = let p = part (goal.at.overflow_add-result-in-Live c).In-Live in omega (arith, p.inside, p.most, p.four)
+pub overflow_add-result-2 : goal.overflow_add-result-2
+overflow_add-result-2 c = let p = part (goal.at.overflow_add-result-2 c).In_ok-message in omega (arith, p.inside, p.most, p.four)
 
-pub returns-in-Refused : goal.returns-in-Refused
-returns-in-Refused c = λ ps bs.
-    let a = c.args in
-    rw c.nowhere.ensures (view-refused a.numbers a.tables.now a.lent a.start ps bs _ (lent (goal.at.returns-in-Refused c).After-is_whole-whole ps bs) c.in-Refused.x (run-refused _ _ _ _ _ c.received.ensures _ c.in-Refused.is))
+pub returns-in_err-message : goal.returns-in_err-message
+returns-in_err-message c = λ ps bs.
+    let e = c.args.self.now in
+    let r : c.from_residual.result ≡ Err c.in_err-message.field-0.0 = search rules in
+    rw r (view-refused e.numbers e.tables c.args.lent c.args.start ps bs _ (lent (goal.at.returns-in_err-message c).After-is_whole-whole ps bs) c.in_err-message.field-0.0 (run-refused _ _ _ _ _ c.received.ensures _ c.in_err-message.was))
 
-pub returns-in-Live : goal.returns-in-Live
-returns-in-Live c = λ ps bs. let a = c.args in view-placed a.numbers a.tables.now a.lent a.start ps bs _ (lent (goal.at.returns-in-Live c).After-is_whole-whole ps bs) _ (run (goal.at.returns-in-Live c).In-Live)
+pub returns : goal.returns
+returns c = λ ps bs. let e = c.args.self.now in view-placed e.numbers e.tables c.args.lent c.args.start ps bs _ (lent (goal.at.returns c).After-is_whole-whole ps bs) _ (run (goal.at.returns c).In_ok-message)

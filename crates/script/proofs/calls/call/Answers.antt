@@ -1,175 +1,153 @@
 use borrow.Author.Rules.{rules}
-use mathlib.Core.Path.{refl, ap, ◌∙◌}
+use mathlib.Core.Path.{refl, sym, ap, ◌∙◌}
 use native.Mathlib.Omega.{arith}
 use lib.ListN.{length}
-use Rattle.icbmsg.specs.Outcome.{without_writes}
+use Rattle.wire.specs.Reads.{answer}
+use Rattle.icbmsg.specs.Outcome.{Outcome, without_writes}
+use Rattle.icbmsg.specs.Messages.{reserve_of, send_rule, drop_of, done_rule}
+use Rattle.icbmsg.specs.Rings.{start_of, push_rule}
+use Rattle.icbmsg.specs.End.{End}
 use Rattle.link.specs.Answers.{end_of}
-use Rattle.script.specs.Calls.{IsCall}
+use Rattle.script.specs.Records.{call_body}
+use Rattle.script.specs.declared.kinds.Kind.TheVariants.{Call}
+use Rattle.script.proofs.WholeEnds.{on_tables, pushed_on, on_numbers, ran, ran_writing, ring_ran}
 use Rattle.script.proofs.MemoryAfter.{quiet_as, sent_as, pulled_in, room_as, room_quiet, view_quiet, register-writes, send-writes, done-writes, push-writes, start-writes, pull-writes}
-use Rattle.script.proofs.CallKinds.{same_outcome, but_for_writes, kind_0, kind_1, kind_2, kind_3, kind_4, kind_5, kind_6, kind_16, kind_17, kind_18, kind_19, kind_20, kind_21, LastCall, body_2, body_3, body_4, body_5, body_17, body_18, body_19, body_20, body_21}
+use Rattle.script.proofs.CallKinds.{arrives, registers, pushes, starts, pulls, reserves, drops, ends, rooms, views, sends, asks_room, asks_view, exactly}
+use Rattle.script.proofs.Places.{room_next, view-next}
 use Rattle.script.proofs.calls.call.Goals as goal
-use Rattle.script.proofs.calls.call.Goals.{In_default, Start}
 
-is_call : (c : Start) → IsCall c.args.kind (length c.args.body.now)
-is_call c = c.requires
+pub returns-in-Arrival : goal.returns-in-Arrival
+returns-in-Arrival c =
+    let e = end_of c.args.end.now in let b = c.args.body.now in let tx = c.args.tx.now in let rx = c.args.rx.now in let u = c.args.buffer.now in
+    let k = c.in-Arrival.is in
+    let o = c.arrival.ensures ∙ arrives e b tx rx u in
+    rw k (record { answer = ran _ _ _ _ c.answered.ensures o; memory = quiet_as _ o tx rx u (refl, refl, refl) })
 
-last : (c : In_default) → LastCall c.args.kind
-last c =
-    record {
-      n20 = search rules;
-      n19 = search rules;
-      n18 = search rules;
-      n17 = search rules;
-      n16 = search rules;
-      n6 = search rules;
-      n5 = search rules;
-      n4 = search rules;
-      n3 = search rules;
-      n2 = search rules;
-      n1 = search rules;
-      n0 = search rules;
-    }
+pub returns-in-Register : goal.returns-in-Register
+returns-in-Register c =
+    let e = end_of c.args.end.now in let b = c.args.body.now in let tx = c.args.tx.now in let rx = c.args.rx.now in let u = c.args.buffer.now in
+    let k = c.in-Register.is in
+    let o = registers e b tx rx u in
+    rw k (record { answer = ran_writing _ _ _ _ c.answered-in-Register.ensures (c.register.ensures.answer ∙ ap without_writes o); memory = sent_as _ o tx rx u _ c.register.ensures.tx (register-writes e tx b) })
+
+pub returns-in-Reserve : goal.returns-in-Reserve
+returns-in-Reserve c =
+    let e = end_of c.args.end.now in let b = c.args.body.now in let tx = c.args.tx.now in let rx = c.args.rx.now in let u = c.args.buffer.now in
+    let k = c.in-Reserve.is in
+    let o = on_tables (λ e. reserve_of e c.read_u32.result) c.args.end.now c.reserve.new.self _ c.reserve.ensures.answer c.reserve.ensures.others ∙ reserves e b tx rx u _ c.read_u32.ensures in
+    rw k (record { answer = ran _ _ _ _ c.answered-in-Reserve.ensures o; memory = quiet_as _ o tx rx u (refl, refl, refl) })
+
+pub returns-in-Send : goal.returns-in-Send
+returns-in-Send c =
+    let e = end_of c.args.end.now in let b = c.args.body.now in let tx = c.args.tx.now in let rx = c.args.rx.now in let u = c.args.buffer.now in
+    let k = c.in-Send.is in
+    let f : End → Outcome = λ x. answer (send_rule x (length tx) c.read_u32-start.result c.read_u32-to.result c.read_u32-k.result) tx in
+    let o = sends e b tx rx u _ c.read_u32-start.ensures _ c.read_u32-to.ensures _ c.read_u32-k.ensures in
+    let h = pushed_on (λ x. without_writes (f x)) c.args.end.now c.send.new.self _ c.send.ensures.answer c.send.ensures.others in
+    rw k (record { answer = ran_writing _ _ _ _ c.answered-in-Send.ensures (h ∙ ap without_writes o); memory = sent_as _ o tx rx u _ (c.send.ensures.tx c.args.end.now.bindings) (send-writes e tx _ _ _) })
+
+pub returns-in-Drop : goal.returns-in-Drop
+returns-in-Drop c =
+    let e = end_of c.args.end.now in let b = c.args.body.now in let tx = c.args.tx.now in let rx = c.args.rx.now in let u = c.args.buffer.now in
+    let k = c.in-Drop.is in
+    let o = on_tables (λ e. drop_of e c.read_u32-in-Drop.result) c.args.end.now c.drop.new.self _ c.drop.ensures.answer c.drop.ensures.others ∙ drops e b tx rx u _ c.read_u32-in-Drop.ensures in
+    rw k (record { answer = ran _ _ _ _ c.answered-in-Drop.ensures o; memory = quiet_as _ o tx rx u (refl, refl, refl) })
+
+pub returns-in-Done : goal.returns-in-Done
+returns-in-Done c =
+    let e = end_of c.args.end.now in let b = c.args.body.now in let tx = c.args.tx.now in let rx = c.args.rx.now in let u = c.args.buffer.now in
+    let k = c.in-Done.is in
+    let f : End → Outcome = λ x. answer (done_rule x (length tx) c.read_u32-in-Done.result) tx in
+    let o = ends e b tx rx u _ c.read_u32-in-Done.ensures in
+    let h = pushed_on (λ x. without_writes (f x)) c.args.end.now c.done.new.self _ (c.done.ensures.answer c.args.end.now.endpoints) c.done.ensures.others in
+    rw k (record { answer = ran_writing _ _ _ _ c.answered-in-Done.ensures (h ∙ ap without_writes o); memory = sent_as _ o tx rx u _ (c.done.ensures.tx c.args.end.now.endpoints c.args.end.now.bindings) (done-writes e tx _) })
+
+pub returns-in-Push : goal.returns-in-Push
+returns-in-Push c =
+    let e = end_of c.args.end.now in let b = c.args.body.now in let tx = c.args.tx.now in let rx = c.args.rx.now in let u = c.args.buffer.now in
+    let k = c.in-Push.is in
+    let o = pushes e b tx rx u in
+    let h = on_numbers (λ x. without_writes (answer (push_rule x (length tx) b) tx)) c.args.end.now c.push.new.self _ c.push.ensures.answer c.push.ensures.others in
+    rw k (record { answer = ring_ran _ _ _ _ c.ring_answered.ensures (h ∙ ap without_writes o); memory = sent_as _ o tx rx u _ (c.push.ensures.tx c.args.end.now.tables c.args.end.now.endpoints c.args.end.now.bindings) (push-writes e tx b) })
+
+pub returns-in-Start : goal.returns-in-Start
+returns-in-Start c =
+    let e = end_of c.args.end.now in let b = c.args.body.now in let tx = c.args.tx.now in let rx = c.args.rx.now in let u = c.args.buffer.now in
+    let k = c.in-Start.is in
+    let o = starts e b tx rx u in
+    let h = on_numbers (λ x. without_writes (start_of x (length tx))) c.args.end.now c.start.new.self _ c.start.ensures.answer c.start.ensures.others in
+    rw k (record { answer = ring_ran _ _ _ _ c.ring_answered-in-Start.ensures (h ∙ ap without_writes o); memory = sent_as _ o tx rx u _ (c.start.ensures.tx c.args.end.now.tables c.args.end.now.endpoints c.args.end.now.bindings) (start-writes e tx) })
+
+pub returns-in-Pull : goal.returns-in-Pull
+returns-in-Pull c =
+    let e = end_of c.args.end.now in let b = c.args.body.now in let tx = c.args.tx.now in let rx = c.args.rx.now in let u = c.args.buffer.now in
+    let k = c.in-Pull.is in
+    let o = pulls e b tx rx u _ c.read_u16.ensures.0 in
+    rw k (record { answer = rw (← o) c.pull.ensures.answer; memory = pulled_in _ o tx rx u _ _ (pull-writes e rx _) c.pull.ensures.rx c.pull.ensures.buffer })
+
+pub returns-in-Room : goal.returns-in-Room
+returns-in-Room c =
+    let e = end_of c.args.end.now in let b = c.args.body.now in let tx = c.args.tx.now in let rx = c.args.rx.now in let u = c.args.buffer.now in
+    let k = c.in-Room.is in
+    let o = rooms e b tx rx u _ c.read_u32-in-Room.ensures in
+    rw k (record { answer = rw (← o) (record { reply = c.room.ensures; end = sym (room_next e (length tx) c.read_u32-in-Room.result) }); memory = room_as _ o tx rx u _ refl (search rules) (room_quiet e _ _) })
+
+pub returns-in-View : goal.returns-in-View
+returns-in-View c =
+    let e = end_of c.args.end.now in let b = c.args.body.now in let tx = c.args.tx.now in let rx = c.args.rx.now in let u = c.args.buffer.now in
+    let k = c.in-View.is in
+    let o = views e b tx rx u _ c.read_u32-in-View.ensures in
+    rw k (record { answer = rw (← o) (record { reply = c.view.ensures; end = sym (view-next e (length rx) c.read_u32-in-View.result) }); memory = quiet_as _ o tx rx u (view_quiet e _ _) })
+
+pub returns-in-RoomQuestion : goal.returns-in-RoomQuestion
+returns-in-RoomQuestion c =
+    let e = end_of c.args.end.now in let b = c.args.body.now in let tx = c.args.tx.now in let rx = c.args.rx.now in let u = c.args.buffer.now in
+    let k = c.in-RoomQuestion.is in
+    let o = c.ask_room.ensures c.args.end.now.endpoints c.args.end.now.bindings ∙ asks_room e b tx rx u _ c.read_u32-in-RoomQuestion.ensures _ c.read_u32-lent.ensures in
+    rw k (record { answer = ran _ _ _ _ c.answered-in-RoomQuestion.ensures o; memory = quiet_as _ o tx rx u (refl, refl, refl) })
+
+pub returns-in-ViewQuestion : goal.returns-in-ViewQuestion
+returns-in-ViewQuestion c =
+    let e = end_of c.args.end.now in let b = c.args.body.now in let tx = c.args.tx.now in let rx = c.args.rx.now in let u = c.args.buffer.now in
+    let k = c.in-ViewQuestion.is in
+    let o = c.ask_view.ensures c.args.end.now.endpoints c.args.end.now.bindings ∙ asks_view e b tx rx u _ c.read_u32-in-ViewQuestion.ensures _ c.read_u32-lent-in-ViewQuestion.ensures in
+    rw k (record { answer = ran _ _ _ _ c.answered-in-ViewQuestion.ensures o; memory = quiet_as _ o tx rx u (refl, refl, refl) })
 
 pub read_u32-requires : goal.read_u32-requires
-read_u32-requires c =
-    let is_call : IsCall c.args.kind (length c.args.body.now) = c.requires in
-    omega (arith, body_2 c.args.kind (length c.args.body.now) is_call.body c.in-2.is)
+read_u32-requires c = omega (arith, exactly (Call c.args.kind) (length c.args.body.now) 4 c.requires (ap call_body c.in-Reserve.is))
 
 pub read_u32-start-requires : goal.read_u32-start-requires
-read_u32-start-requires c =
-    let is_call : IsCall c.args.kind (length c.args.body.now) = c.requires in
-    omega (arith, body_3 c.args.kind (length c.args.body.now) is_call.body c.in-3.is)
+read_u32-start-requires c = omega (arith, exactly (Call c.args.kind) (length c.args.body.now) 12 c.requires (ap call_body c.in-Send.is))
 
 pub read_u32-to-requires : goal.read_u32-to-requires
-read_u32-to-requires c =
-    let is_call : IsCall c.args.kind (length c.args.body.now) = c.requires in
-    omega (arith, body_3 c.args.kind (length c.args.body.now) is_call.body c.in-3.is)
+read_u32-to-requires c = omega (arith, exactly (Call c.args.kind) (length c.args.body.now) 12 c.requires (ap call_body c.in-Send.is))
 
 pub read_u32-k-requires : goal.read_u32-k-requires
-read_u32-k-requires c =
-    let is_call : IsCall c.args.kind (length c.args.body.now) = c.requires in
-    omega (arith, body_3 c.args.kind (length c.args.body.now) is_call.body c.in-3.is)
+read_u32-k-requires c = omega (arith, exactly (Call c.args.kind) (length c.args.body.now) 12 c.requires (ap call_body c.in-Send.is))
 
-pub read_u32-requires-in-4 : goal.read_u32-requires-in-4
-read_u32-requires-in-4 c =
-    let is_call : IsCall c.args.kind (length c.args.body.now) = c.requires in
-    omega (arith, body_4 c.args.kind (length c.args.body.now) is_call.body c.in-4.is)
+pub read_u32-requires-in-Drop : goal.read_u32-requires-in-Drop
+read_u32-requires-in-Drop c = omega (arith, exactly (Call c.args.kind) (length c.args.body.now) 4 c.requires (ap call_body c.in-Drop.is))
 
-pub read_u32-requires-in-5 : goal.read_u32-requires-in-5
-read_u32-requires-in-5 c =
-    let is_call : IsCall c.args.kind (length c.args.body.now) = c.requires in
-    omega (arith, body_5 c.args.kind (length c.args.body.now) is_call.body c.in-5.is)
+pub read_u32-requires-in-Done : goal.read_u32-requires-in-Done
+read_u32-requires-in-Done c = omega (arith, exactly (Call c.args.kind) (length c.args.body.now) 4 c.requires (ap call_body c.in-Done.is))
 
 pub read_u16-requires : goal.read_u16-requires
-read_u16-requires c =
-    let is_call : IsCall c.args.kind (length c.args.body.now) = c.requires in
-    omega (arith, body_17 c.args.kind (length c.args.body.now) is_call.body c.in-17.is)
+read_u16-requires c = omega (arith, exactly (Call c.args.kind) (length c.args.body.now) 2 c.requires (ap call_body c.in-Pull.is))
 
-pub read_u32-requires-in-18 : goal.read_u32-requires-in-18
-read_u32-requires-in-18 c =
-    let is_call : IsCall c.args.kind (length c.args.body.now) = c.requires in
-    omega (arith, body_18 c.args.kind (length c.args.body.now) is_call.body c.in-18.is)
+pub read_u32-requires-in-Room : goal.read_u32-requires-in-Room
+read_u32-requires-in-Room c = omega (arith, exactly (Call c.args.kind) (length c.args.body.now) 4 c.requires (ap call_body c.in-Room.is))
 
-pub read_u32-requires-in-19 : goal.read_u32-requires-in-19
-read_u32-requires-in-19 c =
-    let is_call : IsCall c.args.kind (length c.args.body.now) = c.requires in
-    omega (arith, body_19 c.args.kind (length c.args.body.now) is_call.body c.in-19.is)
+pub read_u32-requires-in-View : goal.read_u32-requires-in-View
+read_u32-requires-in-View c = omega (arith, exactly (Call c.args.kind) (length c.args.body.now) 4 c.requires (ap call_body c.in-View.is))
 
 pub read_u32-lent-requires : goal.read_u32-lent-requires
-read_u32-lent-requires c =
-    let is_call : IsCall c.args.kind (length c.args.body.now) = c.requires in
-    omega (arith, body_20 c.args.kind (length c.args.body.now) is_call.body c.in-20.is)
+read_u32-lent-requires c = omega (arith, exactly (Call c.args.kind) (length c.args.body.now) 8 c.requires (ap call_body c.in-RoomQuestion.is))
 
-pub read_u32-requires-in-20 : goal.read_u32-requires-in-20
-read_u32-requires-in-20 c =
-    let is_call : IsCall c.args.kind (length c.args.body.now) = c.requires in
-    omega (arith, body_20 c.args.kind (length c.args.body.now) is_call.body c.in-20.is)
+pub read_u32-requires-in-RoomQuestion : goal.read_u32-requires-in-RoomQuestion
+read_u32-requires-in-RoomQuestion c = omega (arith, exactly (Call c.args.kind) (length c.args.body.now) 8 c.requires (ap call_body c.in-RoomQuestion.is))
 
-pub read_u32-lent-requires-in_default : goal.read_u32-lent-requires-in_default
-read_u32-lent-requires-in_default c =
-    let is_call : IsCall c.args.kind (length c.args.body.now) = c.requires in
-    omega (arith, body_21 c.args.kind (length c.args.body.now) (last (goal.at.read_u32-lent-requires-in_default c).In_default) is_call.not32 is_call.not33 is_call.not34 is_call.body)
+pub read_u32-lent-requires-in-ViewQuestion : goal.read_u32-lent-requires-in-ViewQuestion
+read_u32-lent-requires-in-ViewQuestion c = omega (arith, exactly (Call c.args.kind) (length c.args.body.now) 8 c.requires (ap call_body c.in-ViewQuestion.is))
 
-pub read_u32-requires-in_default : goal.read_u32-requires-in_default
-read_u32-requires-in_default c =
-    let is_call : IsCall c.args.kind (length c.args.body.now) = c.requires in
-    omega (arith, body_21 c.args.kind (length c.args.body.now) (last (goal.at.read_u32-requires-in_default c).In_default) is_call.not32 is_call.not33 is_call.not34 is_call.body)
-
-pub returns-in-0 : goal.returns-in-0
-returns-in-0 c =
-    let a = c.args in
-    let e = c.arrival.ensures ∙ kind_0 (end_of a.end) a.body.now a.tx.now a.rx.now a.buffer.now a.kind c.in-0.is in
-    record { answer = same_outcome c.of_call.ensures e; memory = quiet_as a.kind e a.tx.now a.rx.now a.buffer.now (refl, refl, refl) }
-
-pub returns-in-1 : goal.returns-in-1
-returns-in-1 c =
-    let a = c.args in
-    let k = kind_1 (end_of a.end) a.body.now a.tx.now a.rx.now a.buffer.now a.kind c.in-1.is in
-    record { answer = but_for_writes c.of_registration.ensures (c.register.ensures.answer ∙ ap without_writes k); memory = sent_as a.kind k a.tx.now a.rx.now a.buffer.now _ c.register.ensures.tx (register-writes (end_of a.end) a.tx.now a.body.now) }
-
-pub returns-in-2 : goal.returns-in-2
-returns-in-2 c =
-    let a = c.args in
-    let e = c.reserve.ensures a.end.endpoints a.end.bindings ∙ kind_2 (end_of a.end) a.body.now a.tx.now a.rx.now a.buffer.now a.kind _ c.read_u32.ensures c.in-2.is in
-    record { answer = same_outcome c.of_answer.ensures e; memory = quiet_as a.kind e a.tx.now a.rx.now a.buffer.now (refl, refl, refl) }
-
-pub returns-in-3 : goal.returns-in-3
-returns-in-3 c =
-    let a = c.args in
-    let k = kind_3 (end_of a.end) a.body.now a.tx.now a.rx.now a.buffer.now a.kind _ c.read_u32-start.ensures _ c.read_u32-to.ensures _ c.read_u32-k.ensures c.in-3.is in
-    record { answer = but_for_writes c.of_push.ensures (c.send.ensures.answer a.end.bindings ∙ ap without_writes k); memory = sent_as a.kind k a.tx.now a.rx.now a.buffer.now _ (c.send.ensures.tx a.end.bindings) (send-writes (end_of a.end) a.tx.now _ _ _) }
-
-pub returns-in-4 : goal.returns-in-4
-returns-in-4 c =
-    let a = c.args in
-    let e = c.drop.ensures a.end.endpoints a.end.bindings ∙ kind_4 (end_of a.end) a.body.now a.tx.now a.rx.now a.buffer.now a.kind _ c.read_u32-in-4.ensures c.in-4.is in
-    record { answer = same_outcome c.of_answer-in-4.ensures e; memory = quiet_as a.kind e a.tx.now a.rx.now a.buffer.now (refl, refl, refl) }
-
-pub returns-in-5 : goal.returns-in-5
-returns-in-5 c =
-    let a = c.args in
-    let k = kind_5 (end_of a.end) a.body.now a.tx.now a.rx.now a.buffer.now a.kind _ c.read_u32-in-5.ensures c.in-5.is in
-    record { answer = but_for_writes c.of_push-in-5.ensures (c.done.ensures.answer a.end.endpoints a.end.bindings ∙ ap without_writes k); memory = sent_as a.kind k a.tx.now a.rx.now a.buffer.now _ (c.done.ensures.tx a.end.endpoints a.end.bindings) (done-writes (end_of a.end) a.tx.now _) }
-
-pub returns-in-6 : goal.returns-in-6
-returns-in-6 c =
-    let a = c.args in
-    let k = kind_6 (end_of a.end) a.body.now a.tx.now a.rx.now a.buffer.now a.kind c.in-6.is in
-    record { answer = but_for_writes c.of_ring_call.ensures (c.push.ensures.answer a.end.tables a.end.endpoints a.end.bindings ∙ ap without_writes k); memory = sent_as a.kind k a.tx.now a.rx.now a.buffer.now _ (c.push.ensures.tx a.end.tables a.end.endpoints a.end.bindings) (push-writes (end_of a.end) a.tx.now a.body.now) }
-
-pub returns-in-16 : goal.returns-in-16
-returns-in-16 c =
-    let a = c.args in
-    let k = kind_16 (end_of a.end) a.body.now a.tx.now a.rx.now a.buffer.now a.kind c.in-16.is in
-    record { answer = but_for_writes c.of_ring_call-in-16.ensures (c.start.ensures.answer a.end.tables a.end.endpoints a.end.bindings ∙ ap without_writes k); memory = sent_as a.kind k a.tx.now a.rx.now a.buffer.now _ (c.start.ensures.tx a.end.tables a.end.endpoints a.end.bindings) (start-writes (end_of a.end) a.tx.now) }
-
-pub returns-in-17 : goal.returns-in-17
-returns-in-17 c =
-    let a = c.args in
-    let k = kind_17 (end_of a.end) a.body.now a.tx.now a.rx.now a.buffer.now a.kind _ c.read_u16.ensures.0 c.in-17.is in
-    record { answer = same_outcome c.pull.ensures.answer k; memory = pulled_in a.kind k a.tx.now a.rx.now a.buffer.now _ _ (pull-writes (end_of a.end) a.rx.now _) c.pull.ensures.rx c.pull.ensures.buffer }
-
-pub returns-in-18 : goal.returns-in-18
-returns-in-18 c =
-    let a = c.args in
-    let z = c.in-18.is in
-    let k = kind_18 (end_of a.end) a.body.now a.tx.now a.rx.now a.buffer.now a.kind _ c.read_u32-in-18.ensures z in
-    record { answer = same_outcome c.room.ensures k; memory = room_as a.kind k a.tx.now a.rx.now a.buffer.now _ z (room_quiet (end_of a.end) _ _) }
-
-pub returns-in-19 : goal.returns-in-19
-returns-in-19 c =
-    let a = c.args in
-    let k = kind_19 (end_of a.end) a.body.now a.tx.now a.rx.now a.buffer.now a.kind _ c.read_u32-in-19.ensures c.in-19.is in
-    record { answer = same_outcome c.view.ensures k; memory = quiet_as a.kind k a.tx.now a.rx.now a.buffer.now (view_quiet (end_of a.end) _ _) }
-
-pub returns-in-20 : goal.returns-in-20
-returns-in-20 c =
-    let a = c.args in
-    let e = c.ask_room.ensures a.end.endpoints a.end.bindings ∙ kind_20 (end_of a.end) a.body.now a.tx.now a.rx.now a.buffer.now a.kind _ c.read_u32-in-20.ensures _ c.read_u32-lent.ensures c.in-20.is in
-    record { answer = same_outcome c.of_answer-in-20.ensures e; memory = quiet_as a.kind e a.tx.now a.rx.now a.buffer.now (refl, refl, refl) }
-
-pub returns-in_default : goal.returns-in_default
-returns-in_default c =
-    let a = c.args in
-    let e = c.ask_view.ensures a.end.endpoints a.end.bindings ∙ kind_21 (end_of a.end) a.body.now a.tx.now a.rx.now a.buffer.now a.kind _ c.read_u32-in_default.ensures _ c.read_u32-lent-in_default.ensures (last (goal.at.returns-in_default c).In_default) in
-    record { answer = same_outcome c.of_answer-in_default.ensures e; memory = quiet_as a.kind e a.tx.now a.rx.now a.buffer.now (refl, refl, refl) }
+pub read_u32-requires-in-ViewQuestion : goal.read_u32-requires-in-ViewQuestion
+read_u32-requires-in-ViewQuestion c = omega (arith, exactly (Call c.args.kind) (length c.args.body.now) 8 c.requires (ap call_body c.in-ViewQuestion.is))

@@ -4,7 +4,7 @@ use Rattle.script.proofs.calls.overwrite.Goals as goal
 
 pub returns-then-p-memory : goal.returns-then-p-memory
 returns-then-p-memory c =
-    rw (← c.read_u32-p.ensures) (c.copy.ensures ∙ written_over c.args.memory.now c.args.body.now _ _ c.requires c.if-p-memory.true c.least-n.ensures.0)
+    rw (← c.read_u32-p.ensures) (c.copy.ensures ∙ written_over c.args.memory.now c.args.body.now _ _ c.requires c.if-p-memory.true c.min-n.ensures)
 
 pub returns-else-p-memory : goal.returns-else-p-memory
 returns-else-p-memory c =

@@ -12,4 +12,4 @@ pub returns : goal.returns
 unfolding push_of
 returns c =
     rw (eq-eqb _ _ c.if-tx-self.false, ← c.ring_of.ensures)
-    (record { answer = c.push-answer.ensures.answer; unit = rw (c.index_after.ensures, c.push-answer.ensures.answer); tx = c.push-answer.ensures.region })
+    (record { answer = c.push-answer.ensures.answer; unit = rw (c.index_after-self.ensures, c.push-answer.ensures.answer); tx = c.push-answer.ensures.region })

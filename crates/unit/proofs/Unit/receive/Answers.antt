@@ -12,4 +12,4 @@ pub returns : goal.returns
 unfolding receive_of
 returns c =
     rw (eq-eqb _ _ c.if-rx-self.false, ← c.ring_of.ensures)
-    (record { answer = c.receive-answer.ensures.answer; unit = rw (c.index_after.ensures, c.receive-answer.ensures.answer); rx = c.receive-answer.ensures.region; buffer = c.receive-answer.ensures.buffer })
+    (record { answer = c.receive-answer.ensures.answer; unit = rw (c.index_after-self.ensures, c.receive-answer.ensures.answer); rx = c.receive-answer.ensures.region; buffer = c.receive-answer.ensures.buffer })

@@ -12,4 +12,4 @@ pub returns : goal.returns
 unfolding start_of
 returns c =
     rw (eq-eqb _ _ c.if-tx-self.false, ← c.ring_of.ensures)
-    (record { answer = c.start-answer.ensures.answer; unit = rw (c.index_after.ensures, c.start-answer.ensures.answer); tx = c.start-answer.ensures.region })
+    (record { answer = c.start-answer.ensures.answer; unit = rw (c.index_after-self.ensures, c.start-answer.ensures.answer); tx = c.start-answer.ensures.region })

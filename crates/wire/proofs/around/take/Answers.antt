@@ -1,10 +1,13 @@
+use mathlib.Core.Path.{◌≡◌}
 use native.Mathlib.Omega.{arith}
 use Rattle.wire.proofs.Wrapped.{taken_in_one, taken_in_two}
 use Rattle.wire.proofs.around.take.Goals as goal
 
-pub returns-then-m-k : goal.returns-then-m-k
-returns-then-m-k c = rw c.copy.ensures (taken_in_one _ _ _ _ _ _ (omega arith))
+pub returns-then-k-m : goal.returns-then-k-m
+returns-then-k-m c =
+    rw (c.copy-then-k-m.ensures, c.copy.ensures) (taken_in_two _ _ _ _ _ _ _ (omega arith) (omega arith) (omega arith))
 
-pub returns-else-m-k : goal.returns-else-m-k
-returns-else-m-k c =
-    rw (c.copy-else-m-k-2.ensures, c.copy-else-m-k.ensures) (taken_in_two _ _ _ _ _ _ _ (omega arith) (omega arith) (omega arith))
+pub returns-else-k-m : goal.returns-else-k-m
+returns-else-k-m c =
+    let all : c.min-k.result ≡ c.args.m = omega arith in
+    rw (c.copy.ensures, all) (taken_in_one _ _ _ _ _ _ (omega arith))

@@ -1,0 +1,7 @@
+use Rattle.std.proofs.Common.{rules, tests}
+use Rattle.endpoints.specs.Endpoints.{at, is_unused, no_endpoint}
+use Rattle.endpoints.proofs.Searches.{first_place}
+use Rattle.endpoints.proofs.find_unused.Goals as goal
+
+pub returns : goal.returns
+returns c = let a = c.args in first_place (at is_unused) no_endpoint a.endpoints.now _ (λ x b q k. search (rules, tests)) _ _ c.position.ensures.ran (cc) c.told-endpoints
