@@ -6,21 +6,27 @@ use icbmsg::{Bounds, Opening};
 use link::{Answer, End};
 use refusal::Refusal;
 
-// An answer as a number.
-fn number_of(a: Result<Answer, Refusal>) -> u32 {
+// What an accepted call answers, as a number.
+fn of_answer(a: Answer) -> u32 {
     match a {
-        Ok(Answer::Accepted) => 1,
-        Ok(Answer::Run { start, count }) => start % 1024 + count % 1024 * 1024,
-        Ok(Answer::Control {
+        Answer::Accepted => 1,
+        Answer::Run { start, count } => start % 1024 + count % 1024 * 1024,
+        Answer::Control {
             kind,
             address,
             block,
-        }) => u32::from(kind) * 65536 + u32::from(address) * 256 + u32::from(block),
-        Ok(Answer::Delivered {
+        } => u32::from(kind) * 65536 + u32::from(address) * 256 + u32::from(block),
+        Answer::Delivered {
             address,
             block,
             length,
-        }) => u32::from(address) * 256 + u32::from(block) + length % 65536 * 65536,
+        } => u32::from(address) * 256 + u32::from(block) + length % 65536 * 65536,
+    }
+}
+
+fn number_of(a: Result<Answer, Refusal>) -> u32 {
+    match a {
+        Ok(a) => of_answer(a),
         Err(x) => 1_000_000u32.wrapping_add(x.number()),
     }
 }
@@ -29,10 +35,10 @@ fn added(sum: u32, a: Result<Answer, Refusal>) -> u32 {
     sum.wrapping_add(number_of(a))
 }
 
-// Where a reservation starts. Of another answer, a start that no table has.
+// Where a reservation starts. Of another answer, a start that no table has, as in bench/calls.c: the call with it is made and summed too.
 fn start_of(a: Result<Answer, Refusal>) -> u32 {
     match a {
-        Ok(Answer::Run { start, count: _ }) => start,
+        Ok(Answer::Run { start, .. }) => start,
         _ => 256,
     }
 }
@@ -49,12 +55,12 @@ fn opened(numbers: &[u32; 7]) -> End {
         end: numbers[5],
         block_count: numbers[6],
     };
-    let called = End::open(Opening {
+    End::open(Opening {
         alignment: numbers[0],
         tx,
         rx,
-    });
-    called.end
+    })
+    .end
 }
 
 // The end with `taken` reservations of one block each.
