@@ -4,6 +4,7 @@ use mathlib.Core.Bool.{Bool, true, false}
 use mathlib.Core.Path.{◌≡◌, refl, sym, ap, ◌∙◌}
 use mathlib.Core.List.{List, []}
 use Rattle.std.specs.Prelude.{Result, Ok, Err}
+use Rattle.std.specs.Result.{result_unwrap_or}
 use native.Mathlib.Omega.{arith}
 use lib.ListN.{take, drop}
 use Rattle.refusal.specs.Numbers.{number_of}
@@ -126,12 +127,10 @@ module _ (o : Outcome) (b z : ℕ) (h : b ≡ o.begin) (k : z ≡ o.size) where
   part-begins q = omega arith
 
 -- where the code's place lies; a refusal has none
-module _ (r : Result Place Refusal) (e : End) (o : Outcome) where
-  pub placed_there : (p : Place) → r ≡ Ok p → place_of r e ≡ o → (p.begin ≡ o.begin) × (p.size ≡ o.size)
-  placed_there p q h = let k : place_of (Ok p) e ≡ o = ap (λ (r : Result Place Refusal). place_of r e) (sym q) ∙ h in (ap (λ (o : Outcome). o.begin) k, ap (λ (o : Outcome). o.size) k)
-
-  pub no_part : (x : Refusal) → r ≡ Err x → place_of r e ≡ o → (0 ≡ o.begin) × (0 ≡ o.size)
-  no_part x q h = let k : place_of (Err x) e ≡ o = ap (λ (r : Result Place Refusal). place_of r e) (sym q) ∙ h in (ap (λ (o : Outcome). o.begin) k, ap (λ (o : Outcome). o.size) k)
+module _ (e : End) (o : Outcome) (p : Place) where
+  pub placed_there : (r : Result Place Refusal) → p ≡ result_unwrap_or r (record { begin = 0; size = 0 }) → place_of r e ≡ o → (p.begin ≡ o.begin) × (p.size ≡ o.size)
+  placed_there (Ok q) k h = rw k (ap (λ (o : Outcome). o.begin) h, ap (λ (o : Outcome). o.size) h)
+  placed_there (Err x) k h = rw k (ap (λ (o : Outcome). o.begin) h, ap (λ (o : Outcome). o.size) h)
 
 -- the question after a place: a refusal's number, or accepted
 module _ (r : Result Place Refusal) (e : End) where

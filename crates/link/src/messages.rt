@@ -11,6 +11,9 @@ use crate::{Answer, End, Place};
 use blocks::Use;
 use refusal::Refusal;
 
+// Where the room or view of a refusal lies.
+const NOWHERE: Place = Place { begin: 0, size: 0 };
+
 impl End {
     // Reserves the blocks of a message of k bytes.
     pub fn reserve(&mut self, k: u32) -> Result<Answer, Refusal>
@@ -59,14 +62,10 @@ impl End {
         ensures bytes { PartOf (λ e. room_of e (length tx.old) start) self.now.numbers self.now.tables tx.old result.now }
         ensures place { (result.ref_ptr.0 ≡ tx.entry.ref_ptr.0) × BeginsAt (λ e. room_of e (length tx.old) start) self.now.numbers self.now.tables tx.entry.ref_ptr.1 result.ref_ptr.1 }
     {
-        match self.room_place(start, tx.len()) {
-            Ok(place) => {
-                let begin = place.begin as usize;
-                let end = begin + place.size as usize;
-                &mut tx[begin..end]
-            }
-            Err(_) => &mut tx[0..0],
-        }
+        let place = self.room_place(start, tx.len()).unwrap_or(NOWHERE);
+        let begin = place.begin as usize;
+        let end = begin + place.size as usize;
+        &mut tx[begin..end]
     }
 
     // Whether `room` would give a room, with `lent` bytes lent.
@@ -164,14 +163,10 @@ impl End {
         ensures bytes { PartOf (λ e. view_of e (length rx.now) start) self.now.numbers self.now.tables rx.now result.now }
         ensures place { (result.ref_ptr.0 ≡ rx.entry.ref_ptr.0) × BeginsAt (λ e. view_of e (length rx.now) start) self.now.numbers self.now.tables rx.entry.ref_ptr.1 result.ref_ptr.1 }
     {
-        match self.view_place(start, rx.len()) {
-            Ok(place) => {
-                let begin = place.begin as usize;
-                let end = begin + place.size as usize;
-                &rx[begin..end]
-            }
-            Err(_) => &rx[0..0],
-        }
+        let place = self.view_place(start, rx.len()).unwrap_or(NOWHERE);
+        let begin = place.begin as usize;
+        let end = begin + place.size as usize;
+        &rx[begin..end]
     }
 
     // Whether `view` would give a message's bytes, with `lent` bytes lent.

@@ -345,17 +345,6 @@ pub extern "C" fn petrelknob_unit_receive(
 
 // ---- of sheets
 
-// The number of a pick: 0 where the path is found.
-fn pick_number(x: Result<Picked, Refusal>) -> u32
-    ensures { result ≡ (outcome_of x).number }
-{
-    match x {
-        Ok(Picked::InHand { .. }) => 0,
-        Ok(Picked::InIncoming { .. }) => 0,
-        Err(x) => x.number(),
-    }
-}
-
 // The place of what it gives: which sheet, the begin in it, and the size.
 fn pick_numbers(x: Result<Picked, Refusal>) -> [u32; 3]
     requires { (outcome_of x).begin + (outcome_of x).size ≤ 4096 }
@@ -382,5 +371,5 @@ pub extern "C" fn petrelknob_pick(
     let picked = sheet::ask_pick(hand, incoming, path);
     let numbers = pick_numbers(picked);
     put_numbers(answer, &numbers);
-    pick_number(picked)
+    Picked::number(picked)
 }

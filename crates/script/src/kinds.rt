@@ -2,6 +2,39 @@
 ghost use Rattle.std.specs.Prelude.{◌≡◌};
 ghost use Rattle.script.specs.Records.{kind_of, call_body, body_of, admits};
 
+// Their numbers.
+pub const ARRIVAL: u8 = 0;
+
+pub const REGISTER: u8 = 1;
+
+pub const RESERVE: u8 = 2;
+
+pub const SEND: u8 = 3;
+
+pub const DROP: u8 = 4;
+
+pub const DONE: u8 = 5;
+
+pub const PUSH: u8 = 6;
+
+pub const START: u8 = 16;
+
+pub const PULL: u8 = 17;
+
+pub const ROOM: u8 = 18;
+
+pub const VIEW: u8 = 19;
+
+pub const ROOM_QUESTION: u8 = 20;
+
+pub const VIEW_QUESTION: u8 = 21;
+
+pub const WRITE_RX: u8 = 32;
+
+pub const WRITE_TX: u8 = 33;
+
+pub const LEND: u8 = 34;
+
 // The calls on an end.
 #[derive(Clone, Copy)]
 pub enum CallKind {
@@ -43,22 +76,22 @@ impl Kind {
         ensures { result ≡ kind_of number }
     {
         match number {
-            0 => Some(Kind::Call(CallKind::Arrival)),
-            1 => Some(Kind::Call(CallKind::Register)),
-            2 => Some(Kind::Call(CallKind::Reserve)),
-            3 => Some(Kind::Call(CallKind::Send)),
-            4 => Some(Kind::Call(CallKind::Drop)),
-            5 => Some(Kind::Call(CallKind::Done)),
-            6 => Some(Kind::Call(CallKind::Push)),
-            16 => Some(Kind::Call(CallKind::Start)),
-            17 => Some(Kind::Call(CallKind::Pull)),
-            18 => Some(Kind::Call(CallKind::Room)),
-            19 => Some(Kind::Call(CallKind::View)),
-            20 => Some(Kind::Call(CallKind::RoomQuestion)),
-            21 => Some(Kind::Call(CallKind::ViewQuestion)),
-            32 => Some(Kind::WriteRx),
-            33 => Some(Kind::WriteTx),
-            34 => Some(Kind::Lend),
+            ARRIVAL => Some(Kind::Call(CallKind::Arrival)),
+            REGISTER => Some(Kind::Call(CallKind::Register)),
+            RESERVE => Some(Kind::Call(CallKind::Reserve)),
+            SEND => Some(Kind::Call(CallKind::Send)),
+            DROP => Some(Kind::Call(CallKind::Drop)),
+            DONE => Some(Kind::Call(CallKind::Done)),
+            PUSH => Some(Kind::Call(CallKind::Push)),
+            START => Some(Kind::Call(CallKind::Start)),
+            PULL => Some(Kind::Call(CallKind::Pull)),
+            ROOM => Some(Kind::Call(CallKind::Room)),
+            VIEW => Some(Kind::Call(CallKind::View)),
+            ROOM_QUESTION => Some(Kind::Call(CallKind::RoomQuestion)),
+            VIEW_QUESTION => Some(Kind::Call(CallKind::ViewQuestion)),
+            WRITE_RX => Some(Kind::WriteRx),
+            WRITE_TX => Some(Kind::WriteTx),
+            LEND => Some(Kind::Lend),
             _ => None,
         }
     }

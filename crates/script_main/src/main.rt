@@ -6,7 +6,6 @@ ghost use Rattle.std.specs.Prelude.{◌≤◌, length};
 
 use script::kinds::{Body, Kind};
 use script::records;
-use std::alloc::AllocError;
 use std::fmt;
 use std::io::Read;
 
@@ -117,11 +116,25 @@ fn print_stop(rt: &impl Print, script: &[u8], rows: usize) {
     }
 }
 
-// Where reading fails, the script ends.
-fn main(rt: HostRuntime) -> Result<(), AllocError> {
-    let mut script = Vec::with_capacity(rt.alloc(), MOST)?;
-    rt.reader().take(MOST as u64).read_to_end(&mut script).ok();
-    let script = script.as_slice();
+// Reads until the script is full, or the input ends or fails, and answers how many bytes it has. No memory is asked for, so none can be
+// missing.
+fn read_script(input: &mut impl Read, script: &mut [u8]) -> usize
+    ensures { result ≤ length script.new }
+{
+    let mut length = 0;
+    while length < script.len() {
+        match input.read(&mut script[length..]) {
+            Ok(0) | Err(_) => break,
+            Ok(n) => length += n,
+        }
+    }
+    length
+}
+
+fn main(rt: HostRuntime) {
+    let mut script = [0; MOST];
+    let length = read_script(&mut rt.reader(), &mut script);
+    let script = &script[..length];
     let mut tx = [0; 16384];
     let mut rx = [0; 16384];
     let mut buffer = [0; 65536];
@@ -131,5 +144,4 @@ fn main(rt: HostRuntime) -> Result<(), AllocError> {
         println!(rt; "{}", Row(row)).ok();
     }
     print_stop(&rt, script, written / ROW);
-    Ok(())
 }

@@ -28,6 +28,19 @@ pub enum Picked {
     InIncoming { begin: usize, size: usize },
 }
 
+impl Picked {
+    // The number of a pick: 0 where the path is found, else the refusal's.
+    pub fn number(answer: Result<Picked, Refusal>) -> u32
+        ensures { result ≡ (outcome_of answer).number }
+    {
+        match answer {
+            Ok(Picked::InHand { .. }) => 0,
+            Ok(Picked::InIncoming { .. }) => 0,
+            Err(x) => x.number(),
+        }
+    }
+}
+
 // Where a value lies in a sheet.
 #[derive(Clone, Copy)]
 struct Span {

@@ -30,6 +30,8 @@ overflow_cast-block c = rw (read (goal.at.overflow_cast-block c).Start _) (omega
 pub free_run-requires : goal.free_run-requires
 free_run-requires c = rw (read (goal.at.free_run-requires c).Start _) c.requires.4
 
+-- where the ring refuses it,
+-- the end stays as it was
 pub returns-in_err-self : goal.returns-in_err-self
 returns-in_err-self c =
     let e = c.args.self.now in

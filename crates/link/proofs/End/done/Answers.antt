@@ -55,6 +55,8 @@ returns-in_err-message c =
     let q = done_refused e.numbers e.tables (length c.args.tx.now) c.args.start ps bs _ (lent (goal.at.returns-in_err-message c).After-is_whole-whole ps bs) c.in_err-message.field-0.0 (run-refused _ _ _ _ _ c.received.ensures _ c.in_err-message.was) in
     before_ring (joined e.numbers e.tables ps bs) c.args.tx.now _ _ q) refl)
 
+-- where the ring refuses it,
+-- the end stays as it was
 pub returns-in_err-self : goal.returns-in_err-self
 returns-in_err-self c =
     let e = c.args.self.now in

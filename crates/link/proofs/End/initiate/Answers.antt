@@ -74,6 +74,8 @@ returns-in_err-space c =
     let r : c.from_residual.result ≡ Err c.in_err-space.field-0.0 = search rules in
     rw r (both_said (before_ring (end_of e) c.args.tx.now _ _ (initiate_refused e.numbers e.tables c.args.name.now _ c.fit.ensures _ c.in_err-space.was e.endpoints e.bindings c.args.i)))
 
+-- where the ring refuses it,
+-- the end stays as it was
 pub returns-in_err-self : goal.returns-in_err-self
 returns-in_err-self c =
     let e = c.args.self.now in

@@ -55,6 +55,8 @@ returns-in_err-sending c =
     rw r (with_others_of_one (λ bs.
     before_ring (joined e.numbers e.tables e.endpoints bs) c.args.tx.now _ _ (send-refused e.numbers e.tables e.endpoints (length c.args.tx.now) c.args.start c.args.address c.args.k _ bs (c.send.ensures bs) _ c.in_err-sending.was)) refl)
 
+-- where the ring refuses it,
+-- the end stays as it was
 pub returns-in_err-self : goal.returns-in_err-self
 returns-in_err-self c =
     let e = c.args.self.now in

@@ -8,4 +8,4 @@ returns-then-k-src c =
     rw (c.copy-then-k-src.ensures, c.copy.ensures) (put_in_two _ _ _ _ _ _ _ (omega arith) (omega arith) (omega arith) refl)
 
 pub returns-else-k-src : goal.returns-else-k-src
-returns-else-k-src c = rw c.copy.ensures (put_in_one _ _ _ _ _ _ (omega arith) (omega arith))
+returns-else-k-src c = rw c.copy-else-k-src.ensures (put_in_one _ _ _ _ _ _ (omega arith) (omega arith))

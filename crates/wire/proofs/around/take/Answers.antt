@@ -9,5 +9,4 @@ returns-then-k-m c =
 
 pub returns-else-k-m : goal.returns-else-k-m
 returns-else-k-m c =
-    let all : c.min-k.result ≡ c.args.m = omega arith in
-    rw (c.copy.ensures, all) (taken_in_one _ _ _ _ _ _ (omega arith))
+    rw c.copy-else-k-m.ensures (taken_in_one _ _ _ _ _ _ (omega arith))
