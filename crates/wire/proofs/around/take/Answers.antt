@@ -1,4 +1,3 @@
-use mathlib.Core.Path.{◌≡◌}
 use native.Mathlib.Omega.{arith}
 use Rattle.wire.proofs.Wrapped.{taken_in_one, taken_in_two}
 use Rattle.wire.proofs.around.take.Goals as goal
