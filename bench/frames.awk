@@ -16,8 +16,11 @@ entry && /\tpush / { frame[name] += 8 }
 entry && /\tsub .*,%rsp/ {
     match($0, /\$0x[0-9a-f]+/)
     frame[name] += hexadecimal(substr($0, RSTART + 3, RLENGTH - 3))
-    if ($0 !~ /\$0x1000,/) entry = 0
+    entry = 0
+    piece = NR
 }
+# A large frame is taken piece by piece, with a store behind each but the last, so that no guard page is passed over.
+/\tmovq +\$0x0,\(%rsp\)/ && NR == piece + 1 { entry = 1 }
 /\tcall / && index($0, "<" name ">") { itself[name] = "calls itself " }
 /,%[er]dx$/ { size = "" }
 /\tmov .*\$0x[0-9a-f]+,%edx/ {
